@@ -1,0 +1,22 @@
+// Seals: what is genuine under which replica's number, and the two sealers.
+// Clients ship this crate without the replica.
+mod benches;
+mod hashes;
+mod keyed;
+mod refusals;
+mod sealers;
+
+pub use benches::BenchSealer;
+pub use benches::BenchSeals;
+pub use hashes::siphash;
+pub use keyed::SipSealer;
+pub use keyed::SipSeals;
+pub use refusals::Fault;
+pub use refusals::FaultDebug;
+pub use refusals::FaultDisplay;
+pub use refusals::FaultEq;
+pub use refusals::FaultFromPacket;
+pub use refusals::FaultPartialEq;
+pub use sealers::Sealer;
+pub use sealers::open;
+pub use sealers::sign;
