@@ -21,6 +21,7 @@ use Rattle.packet.specs.Digits.{bytes-of, number-at}
 use Rattle.packet.specs.Kinds.{byte-of, kind-of}
 use Rattle.packet.specs.Fields.{Fits, proper}
 use Rattle.packet.specs.Statements.{body, encode, decode, fields, if-proper, statement, then-some}
+use Rattle.packet.specs.Packets.{sealed-part}
 use Rattle.packet.specs.Laws.{One-encoding, Sound}
 use Rattle.packet.proofs.Digits.{bytes-part, four-back, eight-back, number-small}
 
@@ -104,8 +105,13 @@ writes-back bs s u e =
     let d = sound-at (b .0) bs s u len (b .2) in
     (ap encode (sym (d .0)) ∙ fields-there (b .0) bs u len (kind-there (getD bs 0 0) (b .0) (b .1)), d .1)
 
+-- the bytes that a seal covers
+sealed-back : (s : Statement) → Sound s → sealed-part (encode s) ≡ (s .signer, body s, s .seal)
+unfolding encode body
+sealed-back s g = ap (λ t. (s .signer, body s, t)) (eight-back (s .seal) (g .seal))
+
 pub one-encoding : One-encoding
-one-encoding = record { reads-back = reads-back; writes-back = writes-back }
+one-encoding = record { reads-back = reads-back; writes-back = writes-back; sealed = sealed-back }
 
 -- the same, as the code's contracts say it
 pub reads-as : (s : Statement) (bs : List ℕ) → bs ≡ encode s → Sound s → decode bs ≡ Some s

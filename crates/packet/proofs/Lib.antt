@@ -1,3 +1,4 @@
 pub mod Digits
 pub mod Encodings
+pub mod Checks
 pub mod Readings

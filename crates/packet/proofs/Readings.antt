@@ -26,14 +26,17 @@ use Rattle.packet.specs.declared.refusals.Fault.{Fault}
 use Rattle.packet.specs.declared.refusals.Fault.the-variants as fault
 use Rattle.packet.specs.declared.statements.Statement.{Statement}
 use Rattle.packet.specs.Kinds.{byte-of, kind-of}
-use Rattle.packet.specs.Laws.{Sound, Written, One-packet, Begins, First-bad, Reading, Refused, told}
+use Rattle.packet.specs.Laws.{Sound, Written, One-packet, Begins, Reading, Refused, told}
 use Rattle.packet.specs.Laws.Refused.{unexpected, misfit, malformed, accepted}
-use Rattle.packet.specs.Packets.{takes, has-length, parts-of, taken, first-kind, check-from, read-parts, read-packet, seen, and-then}
+use Rattle.packet.specs.Packets.{takes, has-length, parts-of, taken, first-kind, check-statements, is-statement, read-parts, read-packet, seen}
+use Rattle.packet.specs.Parts.{and-then, check-from, Passes}
 use Rattle.packet.specs.Statements.{body, encode, decode, read-at}
+use Rattle.packet.proofs.Checks.{Checked, checked, check-passes, passes-checked}
+use Rattle.packet.proofs.Checks.Checked.{fine, bad}
 use Rattle.packet.proofs.Encodings.{kind-back, ok-or-ok, reads-back, writes-back}
 
 -- results
-and-then-ok : {X Y E : Type 0} (r : Result X E) (f : X → Result Y E) (y : Y) → and-then r f ≡ Ok y → (x : X) × (r ≡ Ok x) × (f x ≡ Ok y)
+pub and-then-ok : {X Y E : Type 0} (r : Result X E) (f : X → Result Y E) (y : Y) → and-then r f ≡ Ok y → (x : X) × (r ≡ Ok x) × (f x ≡ Ok y)
 and-then-ok (Ok x) f y e = (x, refl, e)
 and-then-ok (Err d) f y e = let z : _≡_ {A = ℕ} 0 1 = cc in absurd (omega arith)
 
@@ -88,14 +91,14 @@ parts-joined ss =
 reads-at : (i : ℕ) (s : Statement) → Sound s → read-at i (encode s) ≡ Ok s
 reads-at i s g = ap (λ o. okOr o (fault.Statement i)) (reads-back s g)
 
-check-written : (i : ℕ) (ss : List Statement) → All Sound ss → check-from i (map encode ss) ≡ Ok tt
-check-written i [] g = refl
-check-written i (s ∷ ss) g = ap (λ r. and-then r (λ _. check-from (i + 1) (map encode ss))) (reads-at i s (g .0)) ∙ check-written (i + 1) ss (g .1)
+all-statements : (ss : List Statement) → All Sound ss → Passes is-statement (map encode ss)
+all-statements [] g = tt
+all-statements (s ∷ ss) g = (ap isSome (reads-back s (g .0)), all-statements ss (g .1))
 
 read-written : (s : Statement) (ss : List Statement) → All Sound (s ∷ ss) → read-parts (map encode (s ∷ ss)) ≡ Ok (s, map encode (s ∷ ss))
 read-written s ss g =
-    ap (λ r. and-then r (λ t. and-then (check-from 1 (map encode ss)) (λ _. Ok (t, map encode (s ∷ ss))))) (reads-at 0 s (g .0))
-    ∙ ap (λ r. and-then r (λ _. Ok (s, map encode (s ∷ ss)))) (check-written 1 ss (g .1))
+    ap (λ r. and-then r (λ t. and-then (check-statements 1 (map encode ss)) (λ _. Ok (t, map encode (s ∷ ss))))) (reads-at 0 s (g .0))
+    ∙ ap (λ r. and-then r (λ _. Ok (s, map encode (s ∷ ss)))) (check-passes is-statement fault.Statement 1 (map encode ss) (all-statements ss (g .1)))
 
 accepts : (r : Reader) (bs : List ℕ) (k : Kind) → eqb (length bs) 0 ≡ false → kind-of (getD bs 0 0) ≡ Some k → takes r k ≡ true → has-length k (length bs) ≡ true → read-packet r bs ≡ read-parts (parts-of bs)
 unfolding read-packet
@@ -125,23 +128,27 @@ cut-more n bs s u e c =
     let p = c .parts in
     ((w .1, c .sound), cc, cc)
 
-cut-checked : (i n : ℕ) (bs : List ℕ) → Under 256 bs → 30 * n ≡ length bs → check-from i (chunked 30 n bs) ≡ Ok tt → Cut n bs
-cut-checked i zero bs u l e = let z = nil-from-length bs (omega arith) in record { statements = []; sound = tt; whole = sym z; parts = refl }
-cut-checked i (suc n) bs u l e =
-    let a = and-then-ok (read-at i (take 30 bs)) _ tt e in
+some-statement : (o : Option Statement) → isSome o ≡ true → (s : Statement) × (o ≡ Some s)
+some-statement (Some s) e = (s, refl)
+some-statement None e = let z : _≡_ {A = ℕ} 0 1 = cc in absurd (omega arith)
+
+cut-checked : (n : ℕ) (bs : List ℕ) → Under 256 bs → 30 * n ≡ length bs → Passes is-statement (chunked 30 n bs) → Cut n bs
+cut-checked zero bs u l p = let z = nil-from-length bs (omega arith) in record { statements = []; sound = tt; whole = sym z; parts = refl }
+cut-checked (suc n) bs u l p =
+    let s = some-statement (decode (take 30 bs)) (p .0) in
     let m : 30 * n ≡ length (drop 30 bs) = simp length-drop (omega arith) in
-    let c = cut-checked (i + 1) n (drop 30 bs) (all-drop _ 30 bs u) m (a .2) in
-    let g = cut-more n bs (a .0) u (ok-or-ok _ _ _ (a .1)) c in
-    record { statements = a .0 ∷ c .statements; sound = g .0; whole = g .1; parts = g .2 }
+    let c = cut-checked n (drop 30 bs) (all-drop _ 30 bs u) m (p .1) in
+    let g = cut-more n bs (s .0) u (s .1) c in
+    record { statements = s .0 ∷ c .statements; sound = g .0; whole = g .1; parts = g .2 }
 
 read-parts-ok : (n : ℕ) (bs : List ℕ) (s : Statement) (ps : List (List ℕ)) → Under 256 bs → 30 * n ≡ length bs → read-parts (chunked 30 n bs) ≡ Ok (s, ps) → (ss : List Statement) × All Sound (s ∷ ss) × (joined encode (s ∷ ss) ≡ bs) × (ps ≡ map encode (s ∷ ss))
 read-parts-ok zero bs s ps u l e = let z : _≡_ {A = ℕ} 0 1 = cc in absurd (omega arith)
 read-parts-ok (suc n) bs s ps u l e =
     let a = and-then-ok (read-at 0 (take 30 bs)) _ (s, ps) e in
-    let b = and-then-ok (check-from 1 (chunked 30 n (drop 30 bs))) _ (s, ps) (a .2) in
+    let b = and-then-ok (check-statements 1 (chunked 30 n (drop 30 bs))) _ (s, ps) (a .2) in
     let same : _≡_ {A = Statement × List (List ℕ)} (a .0, chunked 30 (suc n) bs) (s, ps) = let o = b .2 in cc in
     let m : 30 * n ≡ length (drop 30 bs) = simp length-drop (omega arith) in
-    let c = cut-checked 1 n (drop 30 bs) (all-drop _ 30 bs u) m (b .1) in
+    let c = cut-checked n (drop 30 bs) (all-drop _ 30 bs u) m (passes-checked is-statement fault.Statement 1 _ (b .1)) in
     let d : decode (take 30 bs) ≡ Some s = ok-or-ok _ _ _ (a .1) ∙ ap (λ x. Some (x .0)) same in
     let g = cut-more n bs s u d c in
     (c .statements, g .0, g .1, sym (ap (λ x. x .1) same) ∙ g .2)
@@ -171,46 +178,28 @@ packet-there r bs s ps u e =
 pub one-packet : One-packet
 one-packet = record { reads-back = packet-back; writes-back = packet-there }
 
--- what checking the parts comes to
-data Checked (i : ℕ) (ps : List (List ℕ)) : Result (Unit {0}) Fault → Type 0 where
-  fine : All (λ p. isSome (decode p) ≡ true) ps → Checked i ps (Ok tt)
-  bad : (j n : ℕ) → n ≡ i + j → First-bad j ps → Checked i ps (Err (fault.Statement n))
-
-checked-more : (i : ℕ) (p : List ℕ) (ps : List (List ℕ)) (o : Option Statement) → decode p ≡ o → (c : Result (Unit {0}) Fault) → Checked (i + 1) ps c → Checked i (p ∷ ps) (and-then (okOr o (fault.Statement i)) (λ _. c))
-checked-more i p ps None e c k = bad 0 i (omega arith) (record { within = omega arith; bad = e; before = λ j l. absurd (omega arith) })
-checked-more i p ps (Some s) e (Ok x) (fine a) = fine (ap isSome e, a)
-checked-more i p ps (Some s) e (Err d) (bad j n m f) = bad (suc j) n (omega arith) (record { within = let w = f .within in omega arith; bad = f .bad; before = before j f })
-  where
-    before : (j : ℕ) → First-bad j ps → (k : ℕ) → k < suc j → isSome (decode (getD (p ∷ ps) k [])) ≡ true
-    before j f zero l = ap isSome e
-    before j f (suc k) l = f .before k (omega arith)
-
-checked : (i : ℕ) (ps : List (List ℕ)) → Checked i ps (check-from i ps)
-checked i [] = fine tt
-checked i (p ∷ ps) = checked-more i p ps (decode p) refl (check-from (i + 1) ps) (checked (i + 1) ps)
-
 length-chunked : (n : ℕ) (bs : List ℕ) → length (chunked 30 n bs) ≡ n
 length-chunked zero bs = refl
 length-chunked (suc n) bs = ap suc (length-chunked n (drop 30 bs))
 
 -- reading the parts is refused as checking them is
-told-steps : {X Y : Type 0} (a : Result X Fault) (b : Result (Unit {0}) Fault) (y : Y) → told {X = X × Y} (and-then a (λ x. and-then b (λ _. Ok (x, y)))) ≡ told (and-then a (λ _. b))
-told-steps (Ok x) (Ok z) y = refl
-told-steps (Ok x) (Err e) y = refl
-told-steps (Err e) b y = refl
-
-told-parts : (ps : List (List ℕ)) → 0 < length ps → told (read-parts ps) ≡ told (check-from 0 ps)
-told-parts [] l = absurd (omega arith)
-told-parts (p ∷ ps) l = told-steps (read-at 0 p) (check-from 1 ps) (p ∷ ps)
+told-parts : (p : List ℕ) (ps : List (List ℕ)) (o : Option Statement) (c : Result (Unit {0}) Fault) → told {X = Statement × List (List ℕ)} (and-then (okOr o (fault.Statement 0)) (λ s. and-then c (λ _. Ok (s, p ∷ ps)))) ≡ told (cond (isSome o) c (Err (fault.Statement 0)))
+told-parts p ps None c = refl
+told-parts p ps (Some s) (Ok x) = refl
+told-parts p ps (Some s) (Err e) = refl
 
 -- the tests in their order, each with what came before it
 module _ (r : Reader) (bs : List ℕ) where
   abbrev after-kind : Kind → Result (Statement × List (List ℕ)) Fault
   after-kind k = cond (has-length k (length bs)) (read-parts (parts-of bs)) (Err fault.Length)
 
-  by-parts : (k : Kind) → Begins r bs k → has-length k (length bs) ≡ true → (c : Result (Unit {0}) Fault) → Checked 0 (parts-of bs) c → Refused r bs (told c)
-  by-parts k g h (Ok x) (fine a) = accepted k g h a
-  by-parts k g h (Err e) (bad j n m f) = let z : n ≡ j = omega arith in rw z (malformed k j g h f)
+  by-check : (k : Kind) → Begins r bs k → has-length k (length bs) ≡ true → (c : Result (Unit {0}) Fault) → Checked is-statement fault.Statement 0 (parts-of bs) c → Refused r bs (told c)
+  by-check k g h (Ok x) (fine a) = accepted k g h a
+  by-check k g h (Err e) (bad j n m f) = let z : n ≡ j = omega arith in rw z (malformed k j g h f)
+
+  by-parts : (k : Kind) → Begins r bs k → has-length k (length bs) ≡ true → (ps : List (List ℕ)) → parts-of bs ≡ ps → 0 < length ps → Refused r bs (told (read-parts ps))
+  by-parts k g h [] e l = absurd (omega arith)
+  by-parts k g h (p ∷ ps) e l = rw (told-parts p ps (decode p) (check-statements 1 ps)) (by-check k g h _ (rw e (checked is-statement fault.Statement 0 (p ∷ ps))))
 
   by-length : (k : Kind) → Begins r bs k → (b : Bool) → has-length k (length bs) ≡ b → Refused r bs (told (cond b (read-parts (parts-of bs)) (Err fault.Length)))
   by-length k g false h = misfit k g h
@@ -218,7 +207,7 @@ module _ (r : Reader) (bs : List ℕ) where
       let w = whole-length k (length bs) h in
       let z = g .0 in
       let l : 0 < length (parts-of bs) = rw length-chunked (omega arith) in
-      rw (told-parts (parts-of bs) l) (by-parts k g h (check-from 0 (parts-of bs)) (checked 0 (parts-of bs)))
+      by-parts k g h (parts-of bs) refl l
 
   by-taker : (k : Kind) → 0 < length bs → kind-of (getD bs 0 0) ≡ Some k → (b : Bool) → takes r k ≡ b → Refused r bs (told (and-then (cond b (Ok k) (Err fault.Unexpected)) after-kind))
   by-taker k l e true t = by-length k (l, e, t) (has-length k (length bs)) refl

@@ -1,11 +1,10 @@
 -- What the format keeps, in its own words.
 use mathlib.Core.Path.{_≡_}
 use mathlib.Core.Bool.{true, false}
-use mathlib.Core.List.{List, [], _∷_, map}
+use mathlib.Core.List.{List, _∷_, map}
 use mathlib.Core.Logic.{_⊎_}
 use Prim.Native.Nat.{ℕ, _<_, _≤_, _^_}
 use lib.ListN.{length, getD}
-use Rattle.std.specs.Options.{isSome}
 use Rattle.std.specs.Vec.{made}
 use Rattle.std.specs.shelf.Lists.{All, joined}
 use Rattle.std.specs.shelf.Digits.{Under}
@@ -22,9 +21,10 @@ use Rattle.packet.specs.declared.refusals.Refusal.{Refusal}
 use Rattle.packet.specs.declared.statements.Statement.{Statement}
 use Rattle.packet.specs.Fields.{Fits, proper}
 use Rattle.packet.specs.Kinds.{kind-of}
-use Rattle.packet.specs.Packets.{takes, has-length, parts-of, read-packet}
+use Rattle.packet.specs.Packets.{takes, has-length, parts-of, is-statement, sealed-part, read-packet}
+use Rattle.packet.specs.Parts.{Passes, First-failing}
 use Rattle.packet.specs.Refusals.{tells, refusal}
-use Rattle.packet.specs.Statements.{encode, decode}
+use Rattle.packet.specs.Statements.{body, encode, decode}
 
 -- a proper statement that a program can hold
 pub record Sound (s : Statement) : Type 0 where
@@ -32,10 +32,12 @@ pub record Sound (s : Statement) : Type 0 where
   pub fits : Fits s
   pub seal : s .seal < 256 ^ 8
 
--- what is written reads back as itself, and what reads as a statement is written back as the same bytes
+-- what is written reads back as itself, what reads as a statement is written back as the same bytes, and the bytes that
+-- a seal covers are the statement's body
 pub record One-encoding : Type 0 where
   pub reads-back : (s : Statement) → Sound s → decode (encode s) ≡ Some s
   pub writes-back : (bs : List ℕ) (s : Statement) → Under 256 bs → decode bs ≡ Some s → (encode s ≡ bs) × Sound s
+  pub sealed : (s : Statement) → Sound s → sealed-part (encode s) ≡ (s .signer, body s, s .seal)
 
 -- bytes that are these statements, written one after another
 pub record Written (r : Reader) (bs : List ℕ) (s : Statement) (ss : List Statement) : Type 0 where
@@ -58,18 +60,12 @@ told (Err e) = Some (refusal e)
 abbrev pub Begins : Reader → List ℕ → Kind → Type 0
 Begins r bs k = (0 < length bs) × (kind-of (getD bs 0 0) ≡ Some k) × (takes r k ≡ true)
 
--- the part at i is the first that is no proper statement
-pub record First-bad (i : ℕ) (ps : List (List ℕ)) : Type 0 where
-  pub within : i < length ps
-  pub bad : decode (getD ps i []) ≡ None
-  pub before : (j : ℕ) → j < i → isSome (decode (getD ps j [])) ≡ true
-
 -- the first rule that bytes break gives the refusal
 pub data Refused (r : Reader) (bs : List ℕ) : Option Refusal → Type 0 where
   unexpected : ((k : Kind) → ¬ Begins r bs k) → Refused r bs (Some (tells 2 layer.Packet None))
   misfit : (k : Kind) → Begins r bs k → has-length k (length bs) ≡ false → Refused r bs (Some (tells 3 layer.Packet None))
-  malformed : (k : Kind) (i : ℕ) → Begins r bs k → has-length k (length bs) ≡ true → First-bad i (parts-of bs) → Refused r bs (Some (tells 4 layer.Packet (Some i)))
-  accepted : (k : Kind) → Begins r bs k → has-length k (length bs) ≡ true → All (λ p. isSome (decode p) ≡ true) (parts-of bs) → Refused r bs None
+  malformed : (k : Kind) (i : ℕ) → Begins r bs k → has-length k (length bs) ≡ true → First-failing is-statement i (parts-of bs) → Refused r bs (Some (tells 4 layer.Packet (Some i)))
+  accepted : (k : Kind) → Begins r bs k → has-length k (length bs) ≡ true → Passes is-statement (parts-of bs) → Refused r bs None
 
 -- what the answer to some bytes says of them
 pub record Reading (r : Reader) (bs : List ℕ) (x : Result Packet Fault) : Type 0 where

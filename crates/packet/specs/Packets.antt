@@ -1,10 +1,10 @@
 -- What a packet is: one or more whole statements, of a length that its first kind has.
 use mathlib.Core.List.{List, [], _∷_}
 use mathlib.Core.Bool.{Bool, true, false, cond, _||_}
-use Prim.Native.Nat.{ℕ, _+_, _/_}
+use Prim.Native.Nat.{ℕ, _/_}
 use lib.Dec.{eqb}
 use lib.ListN.{length, getD, take}
-use Rattle.std.specs.Options.{okOr, isSome}
+use Rattle.std.specs.Options.{isSome}
 use Rattle.std.specs.Vectors.{chunked}
 use Rattle.std.specs.declared.option.Option.{Option}
 use Rattle.std.specs.declared.option.Option.the-variants.{Some, None}
@@ -21,12 +21,8 @@ use Rattle.packet.specs.declared.refusals.Fault.the-variants as fault
 use Rattle.packet.specs.declared.statements.Statement.{Statement}
 use Rattle.packet.specs.Kinds.{kind-of}
 use Rattle.packet.specs.Digits.{number-at}
+use Rattle.packet.specs.Parts.{and-then, check-from}
 use Rattle.packet.specs.Statements.{decode, read-at}
-
--- the second step on what the first gave, or the first's refusal
-abbrev pub and-then : {X Y E : Type 0} → Result X E → (X → Result Y E) → Result Y E
-and-then (Ok x) f = f x
-and-then (Err e) f = Err e
 
 abbrev replica-takes : Kind → Bool
 replica-takes Order = true
@@ -73,15 +69,18 @@ taken r (Some k) = cond (takes r k) (Ok k) (Err fault.Unexpected)
 abbrev pub first-kind : Reader → List ℕ → Result Kind Fault
 first-kind r bs = cond (eqb (length bs) 0) (Err fault.Unexpected) (taken r (kind-of (getD bs 0 0)))
 
--- the first part, counted from i, that is no proper statement is refused
-abbrev pub check-from : ℕ → List (List ℕ) → Result (Unit {0}) Fault
-check-from i [] = Ok tt
-check-from i (p ∷ ps) = and-then (read-at i p) (λ _. check-from (i + 1) ps)
+-- thirty bytes that are a proper statement
+abbrev pub is-statement : List ℕ → Bool
+is-statement p = isSome (decode p)
 
--- the first statement and all parts, which are proper statements
+-- the first part, counted from i, that is none is refused with its place
+abbrev pub check-statements : ℕ → List (List ℕ) → Result (Unit {0}) Fault
+check-statements i ps = check-from is-statement fault.Statement i ps
+
+-- the first statement and all parts, if each is a proper statement
 abbrev pub read-parts : List (List ℕ) → Result (Statement × List (List ℕ)) Fault
 read-parts [] = Err fault.Length
-read-parts (p ∷ ps) = and-then (read-at 0 p) (λ s. and-then (check-from 1 ps) (λ _. Ok (s, p ∷ ps)))
+read-parts (p ∷ ps) = and-then (read-at 0 p) (λ s. and-then (check-statements 1 ps) (λ _. Ok (s, p ∷ ps)))
 
 -- what a reader is told of some bytes
 unfoldable pub read-packet : Reader → List ℕ → Result (Statement × List (List ℕ)) Fault

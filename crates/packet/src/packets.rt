@@ -3,7 +3,7 @@ ghost use mathlib.Core.Path.{_≡_};
 ghost use Prim.Native.Nat.{_<_, _^_};
 ghost use lib.ListN.{length, drop};
 ghost use Rattle.packet.specs.Laws.{One-packet, Reading};
-ghost use Rattle.packet.specs.Packets.{takes, has-length, first-kind, check-from, read-parts, read-packet, statement-at, sealed-part, seen, seen-sealed};
+ghost use Rattle.packet.specs.Packets.{takes, has-length, first-kind, check-statements, read-parts, read-packet, statement-at, sealed-part, seen, seen-sealed};
 use super::kinds::Kind;
 use super::refusals::Fault;
 use super::statements::Statement;
@@ -98,7 +98,7 @@ pub struct Packet<'a> {
 
 fn check_rest(parts: &[[u8; 30]]) -> Result<(), Fault>
     requires { ⌜ 0 < length (now parts) ⌝ ∗ ⌜ length (now parts) < 2 ^ 32 ⌝ }
-    ensures { λ r. ⌜ r ≡ check-from 1 (drop 1 (now (parts .entry))) ⌝ }
+    ensures { λ r. ⌜ r ≡ check-statements 1 (drop 1 (now (parts .entry))) ⌝ }
 {
     for i in 1..parts.len() {
         Statement::read(&parts[i], i as u32)?;

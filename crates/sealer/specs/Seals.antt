@@ -1,8 +1,8 @@
 -- What a seal means, and what a packet under genuine seals is.
 use mathlib.Core.Path.{_≡_}
-use mathlib.Core.Bool.{Bool, true, cond}
-use mathlib.Core.List.{List, [], _∷_}
-use Prim.Native.Nat.{ℕ, _+_}
+use mathlib.Core.Bool.{Bool, true}
+use mathlib.Core.List.{List}
+use Prim.Native.Nat.{ℕ}
 use Rattle.std.specs.declared.result.Result.{Result}
 use Rattle.std.specs.declared.result.Result.the-variants.{Ok, Err}
 use Rattle.packet.specs.declared.packets.Packet.{Packet}
@@ -10,6 +10,7 @@ use Rattle.packet.specs.declared.packets.Reader.{Reader}
 use Rattle.packet.specs.declared.statements.Statement.{Statement}
 use Rattle.packet.specs.declared.refusals.Fault as packet
 use Rattle.packet.specs.Packets as packets
+use Rattle.packet.specs.Parts.{and-then, check-from}
 use Rattle.packet.specs.Statements.{body}
 use Rattle.sealer.specs.declared.refusals.Fault.{Fault}
 use Rattle.sealer.specs.declared.refusals.Fault.the-variants.{Seal}
@@ -32,18 +33,18 @@ pub record Signed (genuine : Meaning) (i : ℕ) (s r : Statement) : Type 0 where
 abbrev pub genuine-part : Meaning → List ℕ → Bool
 genuine-part m p = m (packets.sealed-part p .0) (packets.sealed-part p .1) (packets.sealed-part p .2)
 
--- the first part, counted from i, whose seal is not genuine is refused
-abbrev pub check-from : Meaning → ℕ → List (List ℕ) → Result (Unit {0}) Fault
-check-from m i [] = Ok tt
-check-from m i (p ∷ ps) = cond (genuine-part m p) (check-from m (i + 1) ps) (Err (Seal i))
+-- the first part, counted from i, whose seal is not genuine is refused with its place
+abbrev pub check-seals : Meaning → ℕ → List (List ℕ) → Result (Unit {0}) Fault
+check-seals m i ps = check-from (genuine-part m) Seal i ps
 
 -- the refusal of a layer below, carried
 abbrev pub carried : {X : Type 0} → Result X packet.Fault → Result X Fault
 carried (Ok x) = Ok x
 carried (Err e) = Err (from-packet e)
 
+-- what a reader who checks seals is told of some bytes: first the packet, then every seal in it
 unfoldable pub open-packet : Meaning → Reader → List ℕ → Result (Statement × List (List ℕ)) Fault
-open-packet m r bs = packets.and-then (carried (packets.read-packet r bs)) (λ p. packets.and-then (check-from m 0 (p .1)) (λ _. Ok p))
+open-packet m r bs = and-then (carried (packets.read-packet r bs)) (λ p. and-then (check-seals m 0 (p .1)) (λ _. Ok p))
 
 -- a packet that was opened, without the reference
 abbrev pub seen : Result Packet Fault → Result (Statement × List (List ℕ)) Fault

@@ -35,8 +35,16 @@ impl Fault {
     {
         match self {
             Fault::Packet(fault) => fault.refusal(),
-            Fault::Number => Refusal { number: 4, layer: Layer::Packet, place: Some(0) },
-            Fault::Seal { place } => Refusal { number: 5, layer: Layer::Sealer, place: Some(place) },
+            Fault::Number => Refusal {
+                number: 4,
+                layer: Layer::Packet,
+                place: Some(0),
+            },
+            Fault::Seal { place } => Refusal {
+                number: 5,
+                layer: Layer::Sealer,
+                place: Some(place),
+            },
         }
     }
 }
@@ -46,9 +54,15 @@ pub impl fmt::Display for Fault as FaultDisplay {
         let refusal = self.refusal();
         match self {
             Fault::Packet(fault) => write!(f, "{fault}"),
-            Fault::Number => write!(f, "{refusal}: a sealer's number is 0 to 3; give it the number of one of the four replicas"),
+            Fault::Number => write!(
+                f,
+                "{refusal}: a sealer's number is 0 to 3; give it the number of one of the four replicas"
+            ),
             Fault::Seal { .. } => {
-                write!(f, "{refusal}: the seal is not genuine under the signer's number; the bytes were changed or the keys differ")
+                write!(
+                    f,
+                    "{refusal}: the seal is not genuine under the signer's number; the bytes were changed or the keys differ"
+                )
             }
         }
     }

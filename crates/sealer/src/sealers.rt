@@ -4,7 +4,8 @@ ghost use mathlib.Core.Bool.{Bool, true};
 ghost use mathlib.Core.List.{List};
 ghost use Prim.Native.Nat.{ℕ, _<_, _^_};
 ghost use lib.ListN.{length};
-ghost use Rattle.sealer.specs.Seals.{Meaning, Signed, check-from, open-packet, seen};
+ghost use Rattle.sealer.specs.Laws.{One-opening, Opening};
+ghost use Rattle.sealer.specs.Seals.{Meaning, Signed, check-seals, open-packet, seen};
 use super::refusals::Fault;
 use super::refusals::FaultFromPacket;
 use packet::Packet;
@@ -51,7 +52,7 @@ pub fn sign<S: Sealer>(sealer: &mut S, statement: Statement) -> Statement
 
 fn check_seals<S: Sealer>(sealer: &S, parts: &[[u8; 30]]) -> Result<(), Fault>
     requires { ⌜ length (now parts) < 2 ^ 32 ⌝ }
-    ensures { λ r. ⌜ r ≡ check-from (genuine (now (sealer .entry))) 0 (now (parts .entry)) ⌝ }
+    ensures { λ r. ⌜ r ≡ check-seals (genuine (now (sealer .entry))) 0 (now (parts .entry)) ⌝ }
 {
     for i in 0..parts.len() {
         let part = Sealed::of(&parts[i]);
@@ -64,7 +65,9 @@ fn check_seals<S: Sealer>(sealer: &S, parts: &[[u8; 30]]) -> Result<(), Fault>
 
 // The packet in these bytes, if it is one for this reader and every seal in it is genuine.
 pub fn open<'a, S: Sealer>(sealer: &S, reader: Reader, bytes: &'a [u8]) -> Result<Packet<'a>, Fault>
-    ensures { λ r. ⌜ seen r ≡ open-packet (genuine (now (sealer .entry))) reader (now (bytes .entry)) ⌝ }
+    ensures exact { λ r. ⌜ seen r ≡ open-packet (genuine (now (sealer .entry))) reader (now (bytes .entry)) ⌝ }
+    ensures opening { λ r. ⌜ Opening (genuine (now (sealer .entry))) reader (now (bytes .entry)) r ⌝ }
+    ensures law { λ _. ⌜ One-opening (genuine (now (sealer .entry))) ⌝ }
 {
     let packet = read_packet(reader, bytes)?;
     check_seals(sealer, packet.parts)?;
