@@ -30,6 +30,7 @@ pub use refusals::Fault;
 pub use refusals::FaultDebug;
 pub use refusals::FaultDisplay;
 pub use refusals::FaultEq;
+pub use refusals::FaultError;
 pub use refusals::FaultPartialEq;
 pub use refusals::Layer;
 pub use refusals::LayerDebug;

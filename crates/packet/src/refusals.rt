@@ -1,6 +1,7 @@
 // Why bytes are refused, and what every refusal tells: its number, its layer and the place of a statement.
 ghost use mathlib.Core.Path.{_≡_};
 ghost use Rattle.packet.specs.Refusals.{refusal};
+use std::error::Error;
 use std::fmt;
 
 // The part of the core that refused.
@@ -96,3 +97,5 @@ pub impl fmt::Display for Fault as FaultDisplay {
         write!(f, "{refusal}: {words}")
     }
 }
+
+pub impl Error for Fault as FaultError {}

@@ -15,6 +15,7 @@ pub use refusals::Fault;
 pub use refusals::FaultDebug;
 pub use refusals::FaultDisplay;
 pub use refusals::FaultEq;
+pub use refusals::FaultError;
 pub use refusals::FaultFromPacket;
 pub use refusals::FaultPartialEq;
 pub use sealers::Sealer;

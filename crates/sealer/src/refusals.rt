@@ -8,6 +8,7 @@ use packet::FaultPartialEq as PacketFaultPartialEq;
 use packet::Layer;
 use packet::Refusal;
 use packet::RefusalDisplay;
+use std::error::Error;
 use std::fmt;
 
 #[derive(Clone, Copy, PartialEq, Eq, Debug)]
@@ -67,3 +68,5 @@ pub impl fmt::Display for Fault as FaultDisplay {
         }
     }
 }
+
+pub impl Error for Fault as FaultError {}
