@@ -50,7 +50,7 @@ impl Statement {
                 Kind::Report => {
                     self.view.is_valid()
                         && self.slot.is_valid()
-                        && self.earlier.0 < self.view.0
+                        && self.earlier < self.view
                         && (self.earlier.0 != 0 || self.command == 0)
                 }
                 Kind::Wish => self.view.is_valid()

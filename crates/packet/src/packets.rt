@@ -141,7 +141,7 @@ impl Packet<'_> {
     pub fn statement(&self, place: usize) -> Option<Statement>
         ensures { λ r. ⌜ r ≡ statement-at (now (now (self .entry) .parts)) place ⌝ }
     {
-        if place >= self.parts.len() {
+        if place >= self.count() {
             return None;
         }
         Statement::read(&self.parts[place], 0).ok()

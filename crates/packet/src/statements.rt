@@ -41,11 +41,11 @@ fn four(n: u32) -> [u8; 4]
     n.to_be_bytes()
 }
 
-fn eight(n: u64) -> [u8; 8]
-    ensures exact { λ r. ⌜ r ≡ bytes-of 8 n ⌝ }
-    ensures fits { λ _. ⌜ n < 256 ^ 8 ⌝ }
+fn eight(word: u64) -> [u8; 8]
+    ensures exact { λ r. ⌜ r ≡ bytes-of 8 word ⌝ }
+    ensures fits { λ _. ⌜ word < 256 ^ 8 ⌝ }
 {
-    n.to_be_bytes()
+    word.to_be_bytes()
 }
 
 fn four_at(bytes: &[u8; 30], at: usize) -> u32
@@ -126,40 +126,10 @@ impl Statement {
         ensures exact { λ r. ⌜ r ≡ encode (now (self .entry)) ⌝ }
         ensures back { λ r. ⌜ (proper (now (self .entry)) ≡ true → decode r ≡ Some (now (self .entry))) ⌝ }
     {
-        let b = self.body();
-        let t = eight(self.seal);
-        [
-            b[0],
-            b[1],
-            b[2],
-            b[3],
-            b[4],
-            b[5],
-            b[6],
-            b[7],
-            b[8],
-            b[9],
-            b[10],
-            b[11],
-            b[12],
-            b[13],
-            b[14],
-            b[15],
-            b[16],
-            b[17],
-            b[18],
-            b[19],
-            b[20],
-            b[21],
-            t[0],
-            t[1],
-            t[2],
-            t[3],
-            t[4],
-            t[5],
-            t[6],
-            t[7],
-        ]
+        let mut bytes = [0; 30];
+        bytes[0..22].copy_from_slice(&self.body());
+        bytes[22..30].copy_from_slice(&eight(self.seal));
+        bytes
     }
 
     // The proper statement in these bytes, which stand at a place of a packet.

@@ -24,8 +24,8 @@ pub enum Fault {
 pub impl From<packet::Fault> for Fault as FaultFromPacket {
     ghost converts = { λ e r. r ≡ from-packet e };
 
-    fn from(fault: packet::Fault) -> Fault {
-        Fault::Packet(fault)
+    fn from(lower: packet::Fault) -> Fault {
+        Fault::Packet(lower)
     }
 }
 

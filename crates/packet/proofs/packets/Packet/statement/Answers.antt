@@ -15,9 +15,9 @@ ok-again : {X E : Type 0} (o : Option X) (e : E) → okPart (okOr o e) ≡ o
 ok-again None e = refl
 ok-again (Some x) e = refl
 
-pub returns-then-place-self : need.returns-then-place-self
+pub returns-then-place-count : need.returns-then-place-count
 unfolding decode
-returns-then-place-self c = search (needs, getD-past)
+returns-then-place-count c = search (needs, getD-past)
 
 pub returns : need.returns
 returns c = let e = ok-again (decode (getD (c .args .self .now .parts .now) (c .args .place) [])) (fault.Statement 0) in search needs
