@@ -4,9 +4,10 @@ use packet::Reader;
 use packet::Slot;
 use packet::Statement;
 use packet::View;
-use sealer::FaultDebug;
-use sealer::FaultDisplay;
-use sealer::FaultError;
+use refusal::SealerFault;
+use refusal::SealerFaultDebug;
+use refusal::SealerFaultDisplay;
+use refusal::SealerFaultError;
 use sealer::SipSealer;
 use sealer::SipSeals;
 use sealer::open;
@@ -22,7 +23,7 @@ const OTHER_KEYS: [[u8; 16]; 4] = [[0xB0; 16], [0xB1; 16], [0xB2; 16], [0xB3; 16
 const SLOT: Slot = Slot(7);
 
 // The bytes of a replica's sealed answer for the slot.
-fn answer(number: u8, keys: [[u8; 16]; 4], result: u64) -> Result<[u8; 30], sealer::Fault> {
+fn answer(number: u8, keys: [[u8; 16]; 4], result: u64) -> Result<[u8; 30], SealerFault> {
     let mut own = SipSealer::new(number, keys)?;
     let unsealed = Statement {
         kind: Kind::Answer,

@@ -22,14 +22,15 @@ use Rattle.packet.specs.declared.kinds.Kind.{Kind}
 use Rattle.packet.specs.declared.kinds.Kind.the-variants.{Order, Prepare, Commit, Report, Wish, Checkpoint, Answer}
 use Rattle.packet.specs.declared.packets.Packet.{Packet}
 use Rattle.packet.specs.declared.packets.Reader.{Reader}
-use Rattle.packet.specs.declared.refusals.Fault.{Fault}
-use Rattle.packet.specs.declared.refusals.Fault.the-variants as fault
+use Rattle.refusal.specs.declared.packets.PacketFault.{PacketFault}
+use Rattle.refusal.specs.declared.packets.PacketFault.the-variants as fault
 use Rattle.packet.specs.declared.statements.Statement.{Statement}
 use Rattle.packet.specs.Kinds.{byte-of, kind-of}
-use Rattle.packet.specs.Laws.{Sound, Written, One-packet, Begins, Reading, Refused, told}
+use Rattle.packet.specs.Laws.{Sound, Written, One-packet, Begins, Reading, Refused}
 use Rattle.packet.specs.Laws.Refused.{unexpected, misfit, malformed, accepted}
 use Rattle.packet.specs.Packets.{takes, has-length, parts-of, taken, first-kind, check-statements, is-statement, read-parts, read-packet, seen}
-use Rattle.packet.specs.Parts.{and-then, check-from, Passes}
+use Rattle.packet.specs.Parts.{check-from, Passes}
+use Rattle.refusal.specs.Refusals.{and-then, of-packet, told}
 use Rattle.packet.specs.Statements.{body, encode, decode, read-at}
 use Rattle.packet.proofs.Checks.{Checked, checked, check-passes, passes-checked}
 use Rattle.packet.proofs.Checks.Checked.{fine, bad}
@@ -183,25 +184,25 @@ length-chunked zero bs = refl
 length-chunked (suc n) bs = ap suc (length-chunked n (drop 30 bs))
 
 -- reading the parts is refused as checking them is
-told-parts : (p : List ℕ) (ps : List (List ℕ)) (o : Option Statement) (c : Result (Unit {0}) Fault) → told {X = Statement × List (List ℕ)} (and-then (okOr o (fault.Statement 0)) (λ s. and-then c (λ _. Ok (s, p ∷ ps)))) ≡ told (cond (isSome o) c (Err (fault.Statement 0)))
+told-parts : (p : List ℕ) (ps : List (List ℕ)) (o : Option Statement) (c : Result (Unit {0}) PacketFault) → told {X = Statement × List (List ℕ)} of-packet (and-then (okOr o (fault.Statement 0)) (λ s. and-then c (λ _. Ok (s, p ∷ ps)))) ≡ told of-packet (cond (isSome o) c (Err (fault.Statement 0)))
 told-parts p ps None c = refl
 told-parts p ps (Some s) (Ok x) = refl
 told-parts p ps (Some s) (Err e) = refl
 
 -- the tests in their order, each with what came before it
 module _ (r : Reader) (bs : List ℕ) where
-  abbrev after-kind : Kind → Result (Statement × List (List ℕ)) Fault
+  abbrev after-kind : Kind → Result (Statement × List (List ℕ)) PacketFault
   after-kind k = cond (has-length k (length bs)) (read-parts (parts-of bs)) (Err fault.Length)
 
-  by-check : (k : Kind) → Begins r bs k → has-length k (length bs) ≡ true → (c : Result (Unit {0}) Fault) → Checked is-statement fault.Statement 0 (parts-of bs) c → Refused r bs (told c)
+  by-check : (k : Kind) → Begins r bs k → has-length k (length bs) ≡ true → (c : Result (Unit {0}) PacketFault) → Checked is-statement fault.Statement 0 (parts-of bs) c → Refused r bs (told of-packet c)
   by-check k g h (Ok x) (fine a) = accepted k g h a
   by-check k g h (Err e) (bad j n m f) = let z : n ≡ j = omega arith in rw z (malformed k j g h f)
 
-  by-parts : (k : Kind) → Begins r bs k → has-length k (length bs) ≡ true → (ps : List (List ℕ)) → parts-of bs ≡ ps → 0 < length ps → Refused r bs (told (read-parts ps))
+  by-parts : (k : Kind) → Begins r bs k → has-length k (length bs) ≡ true → (ps : List (List ℕ)) → parts-of bs ≡ ps → 0 < length ps → Refused r bs (told of-packet (read-parts ps))
   by-parts k g h [] e l = absurd (omega arith)
   by-parts k g h (p ∷ ps) e l = rw (told-parts p ps (decode p) (check-statements 1 ps)) (by-check k g h _ (rw e (checked is-statement fault.Statement 0 (p ∷ ps))))
 
-  by-length : (k : Kind) → Begins r bs k → (b : Bool) → has-length k (length bs) ≡ b → Refused r bs (told (cond b (read-parts (parts-of bs)) (Err fault.Length)))
+  by-length : (k : Kind) → Begins r bs k → (b : Bool) → has-length k (length bs) ≡ b → Refused r bs (told of-packet (cond b (read-parts (parts-of bs)) (Err fault.Length)))
   by-length k g false h = misfit k g h
   by-length k g true h =
       let w = whole-length k (length bs) h in
@@ -209,7 +210,7 @@ module _ (r : Reader) (bs : List ℕ) where
       let l : 0 < length (parts-of bs) = rw length-chunked (omega arith) in
       by-parts k g h (parts-of bs) refl l
 
-  by-taker : (k : Kind) → 0 < length bs → kind-of (getD bs 0 0) ≡ Some k → (b : Bool) → takes r k ≡ b → Refused r bs (told (and-then (cond b (Ok k) (Err fault.Unexpected)) after-kind))
+  by-taker : (k : Kind) → 0 < length bs → kind-of (getD bs 0 0) ≡ Some k → (b : Bool) → takes r k ≡ b → Refused r bs (told of-packet (and-then (cond b (Ok k) (Err fault.Unexpected)) after-kind))
   by-taker k l e true t = by-length k (l, e, t) (has-length k (length bs)) refl
   by-taker k l e false t = unexpected other
     where
@@ -221,15 +222,15 @@ module _ (r : Reader) (bs : List ℕ) where
           let z : _≡_ {A = ℕ} 0 1 = cc in
           omega arith
 
-  by-kind : 0 < length bs → (o : Option Kind) → kind-of (getD bs 0 0) ≡ o → Refused r bs (told (and-then (taken r o) after-kind))
+  by-kind : 0 < length bs → (o : Option Kind) → kind-of (getD bs 0 0) ≡ o → Refused r bs (told of-packet (and-then (taken r o) after-kind))
   by-kind l None e = unexpected (λ k g. let a = g .1 in let z : _≡_ {A = ℕ} 0 1 = cc in omega arith)
   by-kind l (Some k) e = by-taker k l e (takes r k) refl
 
-  by-size : (b : Bool) → eqb (length bs) 0 ≡ b → Refused r bs (told (and-then (cond b (Err fault.Unexpected) (taken r (kind-of (getD bs 0 0)))) after-kind))
+  by-size : (b : Bool) → eqb (length bs) 0 ≡ b → Refused r bs (told of-packet (and-then (cond b (Err fault.Unexpected) (taken r (kind-of (getD bs 0 0)))) after-kind))
   by-size true e = unexpected (λ k g. let z = eqb-true (length bs) 0 e in let l = g .0 in omega arith)
   by-size false e = by-kind (let z = eqb-false (length bs) 0 e in omega arith) (kind-of (getD bs 0 0)) refl
 
-refused-in-order : (r : Reader) (bs : List ℕ) → Refused r bs (told (read-packet r bs))
+refused-in-order : (r : Reader) (bs : List ℕ) → Refused r bs (told of-packet (read-packet r bs))
 unfolding read-packet
 refused-in-order r bs = by-size r bs (eqb (length bs) 0) refl
 
@@ -242,12 +243,12 @@ few-parts r bs s ss ps w e =
     let b = whole-length (s .kind) (length bs) (w .long) .1 in
     omega arith
 
-pub reading : (r : Reader) (bs : List ℕ) (x : Result Packet Fault) → ((i : ℕ) → getD bs i 0 < 256) → seen x ≡ read-packet r bs → Reading r bs x
-reading r bs (Err d) t e = record { refused = subst (λ y. Refused r bs (told y)) (sym e) (refused-in-order r bs); whole = tt; few = tt }
+pub reading : (r : Reader) (bs : List ℕ) (x : Result Packet PacketFault) → ((i : ℕ) → getD bs i 0 < 256) → seen x ≡ read-packet r bs → Reading r bs x
+reading r bs (Err d) t e = record { refused = subst (λ y. Refused r bs (told of-packet y)) (sym e) (refused-in-order r bs); whole = tt; few = tt }
 reading r bs (Ok p) t e =
     let w = packet-there r bs (p .first) (p .parts .now) (all-from-getD (λ d. d < 256) bs 0 (λ i _. t i)) (sym e) in
     record {
-      refused = subst (λ y. Refused r bs (told y)) (sym e) (refused-in-order r bs);
+      refused = subst (λ y. Refused r bs (told of-packet y)) (sym e) (refused-in-order r bs);
       whole = w;
       few = few-parts r bs (p .first) (w .0) (p .parts .now) (w .1) (w .2);
     }

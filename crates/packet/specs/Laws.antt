@@ -15,15 +15,15 @@ use Rattle.std.specs.declared.result.Result.the-variants.{Ok, Err}
 use Rattle.packet.specs.declared.kinds.Kind.{Kind}
 use Rattle.packet.specs.declared.packets.Packet.{Packet}
 use Rattle.packet.specs.declared.packets.Reader.{Reader}
-use Rattle.packet.specs.declared.refusals.Fault.{Fault}
-use Rattle.packet.specs.declared.refusals.Layer.the-variants as layer
-use Rattle.packet.specs.declared.refusals.Refusal.{Refusal}
+use Rattle.refusal.specs.declared.packets.PacketFault.{PacketFault}
+use Rattle.refusal.specs.declared.tellings.Layer.the-variants as layer
+use Rattle.refusal.specs.declared.tellings.Refusal.{Refusal}
 use Rattle.packet.specs.declared.statements.Statement.{Statement}
 use Rattle.packet.specs.Fields.{Fits, proper}
 use Rattle.packet.specs.Kinds.{kind-of}
 use Rattle.packet.specs.Packets.{takes, has-length, parts-of, is-statement, sealed-part, read-packet}
 use Rattle.packet.specs.Parts.{Passes, First-failing}
-use Rattle.packet.specs.Refusals.{tells, refusal}
+use Rattle.refusal.specs.Refusals.{of-packet, tells, told}
 use Rattle.packet.specs.Statements.{body, encode, decode}
 
 -- a proper statement that a program can hold
@@ -51,11 +51,6 @@ pub record One-packet : Type 0 where
   pub reads-back : (r : Reader) (bs : List ℕ) (s : Statement) (ss : List Statement) → Written r bs s ss → read-packet r bs ≡ Ok (s, map encode (s ∷ ss))
   pub writes-back : (r : Reader) (bs : List ℕ) (s : Statement) (ps : List (List ℕ)) → Under 256 bs → read-packet r bs ≡ Ok (s, ps) → (ss : List Statement) × Written r bs s ss × (ps ≡ map encode (s ∷ ss))
 
--- the refusal that a result holds
-abbrev pub told : {X : Type 0} → Result X Fault → Option Refusal
-told (Ok x) = None
-told (Err e) = Some (refusal e)
-
 -- bytes begin with a kind that the reader takes
 abbrev pub Begins : Reader → List ℕ → Kind → Type 0
 Begins r bs k = (0 < length bs) × (kind-of (getD bs 0 0) ≡ Some k) × (takes r k ≡ true)
@@ -68,7 +63,7 @@ pub data Refused (r : Reader) (bs : List ℕ) : Option Refusal → Type 0 where
   accepted : (k : Kind) → Begins r bs k → has-length k (length bs) ≡ true → Passes is-statement (parts-of bs) → Refused r bs None
 
 -- what the answer to some bytes says of them
-pub record Reading (r : Reader) (bs : List ℕ) (x : Result Packet Fault) : Type 0 where
-  pub refused : Refused r bs (told x)
+pub record Reading (r : Reader) (bs : List ℕ) (x : Result Packet PacketFault) : Type 0 where
+  pub refused : Refused r bs (told of-packet x)
   pub whole : made x (λ p. (ss : List Statement) × Written r bs (p .first) ss × (p .parts .now ≡ map encode (p .first ∷ ss)))
   pub few : made x (λ p. length (p .parts .now) ≤ 13)

@@ -2,7 +2,6 @@ pub mod Digits
 pub mod Kinds
 pub mod Fields
 pub mod Statements
-pub mod Refusals
 pub mod Parts
 pub mod Packets
 pub mod Laws

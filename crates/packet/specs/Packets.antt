@@ -16,12 +16,13 @@ use Rattle.packet.specs.declared.packets.Reader.{Reader}
 use Rattle.packet.specs.declared.packets.Reader.the-variants.{Replica, Collector, Monitor}
 use Rattle.packet.specs.declared.packets.Packet.{Packet}
 use Rattle.packet.specs.declared.packets.Sealed.{Sealed}
-use Rattle.packet.specs.declared.refusals.Fault.{Fault}
-use Rattle.packet.specs.declared.refusals.Fault.the-variants as fault
+use Rattle.refusal.specs.declared.packets.PacketFault.{PacketFault}
+use Rattle.refusal.specs.declared.packets.PacketFault.the-variants as fault
 use Rattle.packet.specs.declared.statements.Statement.{Statement}
 use Rattle.packet.specs.Kinds.{kind-of}
 use Rattle.packet.specs.Digits.{number-at}
-use Rattle.packet.specs.Parts.{and-then, check-from}
+use Rattle.packet.specs.Parts.{check-from}
+use Rattle.refusal.specs.Refusals.{and-then}
 use Rattle.packet.specs.Statements.{decode, read-at}
 
 abbrev replica-takes : Kind → Bool
@@ -62,11 +63,11 @@ has-length Answer n = eqb n 30
 abbrev pub parts-of : List ℕ → List (List ℕ)
 parts-of bs = chunked 30 (length bs / 30) bs
 
-abbrev pub taken : Reader → Option Kind → Result Kind Fault
+abbrev pub taken : Reader → Option Kind → Result Kind PacketFault
 taken r None = Err fault.Unexpected
 taken r (Some k) = cond (takes r k) (Ok k) (Err fault.Unexpected)
 
-abbrev pub first-kind : Reader → List ℕ → Result Kind Fault
+abbrev pub first-kind : Reader → List ℕ → Result Kind PacketFault
 first-kind r bs = cond (eqb (length bs) 0) (Err fault.Unexpected) (taken r (kind-of (getD bs 0 0)))
 
 -- thirty bytes that are a proper statement
@@ -74,16 +75,16 @@ abbrev pub is-statement : List ℕ → Bool
 is-statement p = isSome (decode p)
 
 -- the first part, counted from i, that is none is refused with its place
-abbrev pub check-statements : ℕ → List (List ℕ) → Result (Unit {0}) Fault
+abbrev pub check-statements : ℕ → List (List ℕ) → Result (Unit {0}) PacketFault
 check-statements i ps = check-from is-statement fault.Statement i ps
 
 -- the first statement and all parts, if each is a proper statement
-abbrev pub read-parts : List (List ℕ) → Result (Statement × List (List ℕ)) Fault
+abbrev pub read-parts : List (List ℕ) → Result (Statement × List (List ℕ)) PacketFault
 read-parts [] = Err fault.Length
 read-parts (p ∷ ps) = and-then (read-at 0 p) (λ s. and-then (check-statements 1 ps) (λ _. Ok (s, p ∷ ps)))
 
 -- what a reader is told of some bytes
-unfoldable pub read-packet : Reader → List ℕ → Result (Statement × List (List ℕ)) Fault
+unfoldable pub read-packet : Reader → List ℕ → Result (Statement × List (List ℕ)) PacketFault
 read-packet r bs = and-then (first-kind r bs) (λ k. cond (has-length k (length bs)) (read-parts (parts-of bs)) (Err fault.Length))
 
 -- the statement at a place; past the last part there is none
@@ -91,7 +92,7 @@ abbrev pub statement-at : List (List ℕ) → ℕ → Option Statement
 statement-at ps i = decode (getD ps i [])
 
 -- a packet that was read, without the reference
-abbrev pub seen : Result Packet Fault → Result (Statement × List (List ℕ)) Fault
+abbrev pub seen : Result Packet PacketFault → Result (Statement × List (List ℕ)) PacketFault
 seen (Ok p) = Ok (p .first, p .parts .now)
 seen (Err e) = Err e
 

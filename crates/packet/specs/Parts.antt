@@ -8,11 +8,6 @@ use Rattle.std.specs.shelf.Lists.{All}
 use Rattle.std.specs.declared.result.Result.{Result}
 use Rattle.std.specs.declared.result.Result.the-variants.{Ok, Err}
 
--- the second step on what the first gave, or the first's refusal
-abbrev pub and-then : {X Y E : Type 0} → Result X E → (X → Result Y E) → Result Y E
-and-then (Ok x) f = f x
-and-then (Err e) f = Err e
-
 -- the first part, counted from i, that fails a test is refused with its place
 abbrev pub check-from : {X E : Type 0} → (X → Bool) → (ℕ → E) → ℕ → List X → Result (Unit {0}) E
 check-from test fault i [] = Ok tt

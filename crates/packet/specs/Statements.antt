@@ -10,8 +10,8 @@ use Rattle.std.specs.declared.option.Option.the-variants.{Some, None}
 use Rattle.std.specs.declared.result.Result.{Result}
 use Rattle.packet.specs.declared.kinds.Kind.{Kind}
 use Rattle.packet.specs.declared.statements.Statement.{Statement}
-use Rattle.packet.specs.declared.refusals.Fault.{Fault}
-use Rattle.packet.specs.declared.refusals.Fault.the-variants as fault
+use Rattle.refusal.specs.declared.packets.PacketFault.{PacketFault}
+use Rattle.refusal.specs.declared.packets.PacketFault.the-variants as fault
 use Rattle.packet.specs.Digits.{bytes-of, number-at}
 use Rattle.packet.specs.Kinds.{byte-of, kind-of}
 use Rattle.packet.specs.Fields.{proper}
@@ -43,5 +43,5 @@ unfoldable pub decode : List ℕ → Option Statement
 decode bs = cond (eqb (length bs) 30) (then-some (kind-of (getD bs 0 0)) (λ k. if-proper (fields k bs))) None
 
 -- the same at a place of a packet, where anything else is refused
-abbrev pub read-at : ℕ → List ℕ → Result Statement Fault
+abbrev pub read-at : ℕ → List ℕ → Result Statement PacketFault
 read-at i bs = okOr (decode bs) (fault.Statement i)

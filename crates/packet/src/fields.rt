@@ -6,11 +6,13 @@ use super::kinds::Kind;
 use super::statements::Statement;
 
 // A view: the time of one primary and one spare. Views are numbered from 1; 0 stands for no view.
-#[derive(Clone, Copy, PartialEq, Eq, PartialOrd, Ord, Debug)]
+#[repr(C)]
+#[derive(Clone, Copy, PartialEq, Eq, PartialOrd, Debug)]
 pub struct View(pub u32);
 
 // A slot: one place in the list of commands. Slots are numbered from 1; 0 stands for no slot.
-#[derive(Clone, Copy, PartialEq, Eq, PartialOrd, Ord, Debug)]
+#[repr(C)]
+#[derive(Clone, Copy, PartialEq, Eq, PartialOrd, Debug)]
 pub struct Slot(pub u32);
 
 impl View {

@@ -5,9 +5,9 @@ ghost use lib.ListN.{length, drop};
 ghost use Rattle.packet.specs.Laws.{One-packet, Reading};
 ghost use Rattle.packet.specs.Packets.{takes, has-length, first-kind, check-statements, read-parts, read-packet, statement-at, sealed-part, seen, seen-sealed};
 use super::kinds::Kind;
-use super::refusals::Fault;
 use super::statements::Statement;
 use super::statements::eight_at;
+use refusal::PacketFault;
 
 // Who reads a packet, and so which kinds it may begin with.
 #[derive(Clone, Copy)]
@@ -32,17 +32,17 @@ impl Reader {
         }
     }
 
-    fn first_kind(self, bytes: &[u8]) -> Result<Kind, Fault>
+    fn first_kind(self, bytes: &[u8]) -> Result<Kind, PacketFault>
         ensures { λ r. ⌜ r ≡ first-kind self (now (bytes .entry)) ⌝ }
     {
         if bytes.is_empty() {
-            return Err(Fault::Unexpected);
+            return Err(PacketFault::Unexpected);
         }
         let Some(kind) = Kind::from_byte(bytes[0]) else {
-            return Err(Fault::Unexpected);
+            return Err(PacketFault::Unexpected);
         };
         if !self.takes(kind) {
-            return Err(Fault::Unexpected);
+            return Err(PacketFault::Unexpected);
         }
         Ok(kind)
     }
@@ -96,7 +96,7 @@ pub struct Packet<'a> {
     pub parts: &'a [[u8; 30]],
 }
 
-fn check_rest(parts: &[[u8; 30]]) -> Result<(), Fault>
+fn check_rest(parts: &[[u8; 30]]) -> Result<(), PacketFault>
     requires { ⌜ 0 < length (now parts) ⌝ ∗ ⌜ length (now parts) < 2 ^ 32 ⌝ }
     ensures { λ r. ⌜ r ≡ check-statements 1 (drop 1 (now (parts .entry))) ⌝ }
 {
@@ -106,7 +106,7 @@ fn check_rest(parts: &[[u8; 30]]) -> Result<(), Fault>
     Ok(())
 }
 
-fn read_parts(parts: &[[u8; 30]]) -> Result<Packet<'_>, Fault>
+fn read_parts(parts: &[[u8; 30]]) -> Result<Packet<'_>, PacketFault>
     requires { ⌜ 0 < length (now parts) ⌝ ∗ ⌜ length (now parts) < 2 ^ 32 ⌝ }
     ensures { λ r. ⌜ seen r ≡ read-parts (now (parts .entry)) ⌝ }
 {
@@ -116,14 +116,14 @@ fn read_parts(parts: &[[u8; 30]]) -> Result<Packet<'_>, Fault>
 }
 
 // The packet in these bytes, or the first reason to refuse it.
-pub fn read_packet(reader: Reader, bytes: &[u8]) -> Result<Packet<'_>, Fault>
+pub fn read_packet(reader: Reader, bytes: &[u8]) -> Result<Packet<'_>, PacketFault>
     ensures exact { λ r. ⌜ seen r ≡ read-packet reader (now (bytes .entry)) ⌝ }
     ensures reading { λ r. ⌜ Reading reader (now (bytes .entry)) r ⌝ }
     ensures law { λ _. ⌜ One-packet ⌝ }
 {
     let kind = reader.first_kind(bytes)?;
     if !kind.has_length(bytes.len()) {
-        return Err(Fault::Length);
+        return Err(PacketFault::Length);
     }
     let (parts, _) = bytes.as_chunks::<30>();
     read_parts(parts)

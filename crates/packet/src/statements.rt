@@ -20,7 +20,7 @@ use super::kinds::Kind;
 use super::kinds::KindDebug;
 use super::kinds::KindEq;
 use super::kinds::KindPartialEq;
-use super::refusals::Fault;
+use refusal::PacketFault;
 
 // What one replica says under its seal.
 #[derive(Clone, Copy, PartialEq, Eq, Debug)]
@@ -133,16 +133,16 @@ impl Statement {
     }
 
     // The proper statement in these bytes, which stand at a place of a packet.
-    pub fn read(bytes: &[u8; 30], place: u32) -> Result<Statement, Fault>
+    pub fn read(bytes: &[u8; 30], place: u32) -> Result<Statement, PacketFault>
         ensures exact { λ r. ⌜ r ≡ read-at place (now (bytes .entry)) ⌝ }
         ensures law { λ _. ⌜ One-encoding ⌝ }
     {
         let Some(kind) = Kind::from_byte(bytes[0]) else {
-            return Err(Fault::Statement { place });
+            return Err(PacketFault::Statement { place });
         };
         let statement = Statement::fields(kind, bytes);
         if !statement.is_proper() {
-            return Err(Fault::Statement { place });
+            return Err(PacketFault::Statement { place });
         }
         Ok(statement)
     }

@@ -2,8 +2,6 @@
 // reader, and the place of the first bad statement.
 #[cfg(test)]
 mod tests {
-    use packet::Fault;
-    use packet::FaultPartialEq;
     use packet::Kind;
     use packet::Reader;
     use packet::Slot;
@@ -11,6 +9,8 @@ mod tests {
     use packet::StatementPartialEq;
     use packet::View;
     use packet::read_packet;
+    use refusal::PacketFault;
+    use refusal::PacketFaultPartialEq;
     use std::test::*;
 
     // The fields of a statement without its seal, and whether they are proper.
@@ -82,7 +82,7 @@ mod tests {
             let expected = if *proper {
                 Ok(statement)
             } else {
-                Err(Fault::Statement { place: 5 })
+                Err(PacketFault::Statement { place: 5 })
             };
             check(Statement::read(&statement.write(), 5) == expected)?;
         }
@@ -225,7 +225,7 @@ mod tests {
         for place in 0..13u32 {
             match read_packet(Reader::Replica, &spoiled(good, place as usize)) {
                 Ok(_) => check(false)?,
-                Err(fault) => check(fault == Fault::Statement { place })?,
+                Err(fault) => check(fault == PacketFault::Statement { place })?,
             }
         }
         Ok(())

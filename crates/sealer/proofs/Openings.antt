@@ -16,19 +16,20 @@ use Rattle.packet.proofs.Encodings.{one-encoding}
 use Rattle.packet.proofs.Readings.{and-then-ok, packet-back, packet-there}
 use Rattle.packet.specs.declared.packets.Packet.{Packet}
 use Rattle.packet.specs.declared.packets.Reader.{Reader}
-use Rattle.packet.specs.declared.refusals.Fault as packet
+use Rattle.refusal.specs.declared.packets.PacketFault.{PacketFault}
 use Rattle.packet.specs.declared.statements.Statement.{Statement}
 use Rattle.packet.specs.Laws as packets
 use Rattle.packet.specs.Packets.{read-packet, sealed-part}
-use Rattle.packet.specs.Parts.{and-then, Passes}
+use Rattle.packet.specs.Parts.{Passes}
+use Rattle.refusal.specs.Refusals.{and-then, carried, from-packet, of-packet, of-sealer, told}
 use Rattle.packet.specs.Statements.{body, encode}
-use Rattle.sealer.specs.declared.refusals.Fault.{Fault}
-use Rattle.sealer.specs.declared.refusals.Fault.the-variants.{Seal}
-use Rattle.sealer.specs.Laws.{Genuine, One-opening, Opening, Refused, told}
+use Rattle.refusal.specs.declared.sealers.SealerFault.{SealerFault}
+use Rattle.refusal.specs.declared.sealers.SealerFault.the-variants.{Seal}
+use Rattle.sealer.specs.Laws.{Genuine, One-opening, Opening, Refused}
 use Rattle.sealer.specs.Laws.Refused.{unread, forged, opened}
-use Rattle.sealer.specs.Seals.{Meaning, carried, check-seals, genuine-part, open-packet, seen}
+use Rattle.sealer.specs.Seals.{Meaning, check-seals, genuine-part, open-packet, seen}
 
-carried-ok : {X : Type 0} (r : Result X packet.Fault) (x : X) → carried r ≡ Ok x → r ≡ Ok x
+carried-ok : {X : Type 0} (r : Result X PacketFault) (x : X) → carried from-packet r ≡ Ok x → r ≡ Ok x
 carried-ok (Ok y) x e = let z : y ≡ x = cc in ap Ok z
 carried-ok (Err d) x e = let z : _≡_ {A = ℕ} 0 1 = cc in absurd (omega arith)
 
@@ -53,12 +54,12 @@ module _ (m : Meaning) where
   opens r bs s ss w a =
       let e = packet-back r bs s ss w in
       let c = check-passes (genuine-part m) Seal 0 (map encode (s ∷ ss)) (parts-pass (s ∷ ss) (w .sound) a) in
-      ap (λ x. and-then (carried x) (λ p. and-then (check-seals m 0 (p .1)) (λ _. Ok p))) e ∙ ap (λ x. and-then x (λ _. Ok (s, map encode (s ∷ ss)))) c
+      ap (λ x. and-then (carried from-packet x) (λ p. and-then (check-seals m 0 (p .1)) (λ _. Ok p))) e ∙ ap (λ x. and-then x (λ _. Ok (s, map encode (s ∷ ss)))) c
 
   was-opened : (r : Reader) (bs : List ℕ) (s : Statement) (ps : List (List ℕ)) → Under 256 bs → open-packet m r bs ≡ Ok (s, ps) → (ss : List Statement) × packets.Written r bs s ss × All (Genuine m) (s ∷ ss) × (ps ≡ map encode (s ∷ ss))
   unfolding open-packet
   was-opened r bs s ps u e =
-      let a = and-then-ok (carried (read-packet r bs)) _ (s, ps) e in
+      let a = and-then-ok (carried from-packet (read-packet r bs)) _ (s, ps) e in
       let b = and-then-ok (check-seals m 0 (a .0 .1)) _ (s, ps) (a .2) in
       let q : _≡_ {A = Statement × List (List ℕ)} (a .0) (s, ps) = let o = b .2 in cc in
       let w = packet-there r bs s ps u (carried-ok _ _ (a .1) ∙ ap Ok q) in
@@ -69,21 +70,21 @@ module _ (m : Meaning) where
   one-opening = record { opens = opens; opened = was-opened }
 
   -- the refusal, by what reading and then checking came to
-  by-seals : (r : Reader) (bs : List ℕ) (s : Statement) (ps : List (List ℕ)) → read-packet r bs ≡ Ok (s, ps) → (c : Result (Unit {0}) Fault) → Checked (genuine-part m) Seal 0 ps c → Refused m r bs (told {X = Statement × List (List ℕ)} (and-then c (λ _. Ok (s, ps))))
+  by-seals : (r : Reader) (bs : List ℕ) (s : Statement) (ps : List (List ℕ)) → read-packet r bs ≡ Ok (s, ps) → (c : Result (Unit {0}) SealerFault) → Checked (genuine-part m) Seal 0 ps c → Refused m r bs (told {X = Statement × List (List ℕ)} of-sealer (and-then c (λ _. Ok (s, ps))))
   by-seals r bs s ps e c (fine a) = opened s ps e a
   by-seals r bs s ps e c (bad j n q f) = let z : n ≡ j = omega arith in rw z (forged s ps j e f)
 
-  by-reading : (r : Reader) (bs : List ℕ) (x : Result (Statement × List (List ℕ)) packet.Fault) → read-packet r bs ≡ x → Refused m r bs (told (and-then (carried x) (λ p. and-then (check-seals m 0 (p .1)) (λ _. Ok p))))
+  by-reading : (r : Reader) (bs : List ℕ) (x : Result (Statement × List (List ℕ)) PacketFault) → read-packet r bs ≡ x → Refused m r bs (told of-sealer (and-then (carried from-packet x) (λ p. and-then (check-seals m 0 (p .1)) (λ _. Ok p))))
   by-reading r bs (Ok p) e = by-seals r bs (p .0) (p .1) e (check-seals m 0 (p .1)) (checked (genuine-part m) Seal 0 (p .1))
-  by-reading r bs (Err d) e = unread _ (ap packets.told e)
+  by-reading r bs (Err d) e = unread _ (ap (told of-packet) e)
 
-  refused : (r : Reader) (bs : List ℕ) → Refused m r bs (told (open-packet m r bs))
+  refused : (r : Reader) (bs : List ℕ) → Refused m r bs (told of-sealer (open-packet m r bs))
   unfolding open-packet
   refused r bs = by-reading r bs (read-packet r bs) refl
 
-  pub opening : (r : Reader) (bs : List ℕ) (x : Result Packet Fault) → ((i : ℕ) → getD bs i 0 < 256) → seen x ≡ open-packet m r bs → Opening m r bs x
-  opening r bs (Err d) t e = record { refused = subst (λ y. Refused m r bs (told y)) (sym e) (refused r bs); whole = tt }
+  pub opening : (r : Reader) (bs : List ℕ) (x : Result Packet SealerFault) → ((i : ℕ) → getD bs i 0 < 256) → seen x ≡ open-packet m r bs → Opening m r bs x
+  opening r bs (Err d) t e = record { refused = subst (λ y. Refused m r bs (told of-sealer y)) (sym e) (refused r bs); whole = tt }
   opening r bs (Ok p) t e = record {
-    refused = subst (λ y. Refused m r bs (told y)) (sym e) (refused r bs);
+    refused = subst (λ y. Refused m r bs (told of-sealer y)) (sym e) (refused r bs);
     whole = was-opened r bs (p .first) (p .parts .now) (all-from-getD (λ d. d < 256) bs 0 (λ i _. t i)) (sym e);
   }

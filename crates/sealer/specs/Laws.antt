@@ -12,16 +12,15 @@ use Rattle.std.specs.declared.result.Result.{Result}
 use Rattle.std.specs.declared.result.Result.the-variants.{Ok, Err}
 use Rattle.packet.specs.declared.packets.Packet.{Packet}
 use Rattle.packet.specs.declared.packets.Reader.{Reader}
-use Rattle.packet.specs.declared.refusals.Layer.the-variants as layer
-use Rattle.packet.specs.declared.refusals.Refusal.{Refusal}
+use Rattle.refusal.specs.declared.tellings.Layer.the-variants as layer
+use Rattle.refusal.specs.declared.tellings.Refusal.{Refusal}
 use Rattle.packet.specs.declared.statements.Statement.{Statement}
 use Rattle.packet.specs.Laws as packets
 use Rattle.packet.specs.Packets.{read-packet}
 use Rattle.packet.specs.Parts.{Passes, First-failing}
-use Rattle.packet.specs.Refusals.{tells}
+use Rattle.refusal.specs.Refusals.{of-packet, of-sealer, tells, told}
 use Rattle.packet.specs.Statements.{body, encode}
-use Rattle.sealer.specs.declared.refusals.Fault.{Fault}
-use Rattle.sealer.specs.Refusals.{refusal}
+use Rattle.refusal.specs.declared.sealers.SealerFault.{SealerFault}
 use Rattle.sealer.specs.Seals.{Meaning, genuine-part, open-packet}
 
 -- the seal of a statement is genuine under its signer's number
@@ -33,18 +32,13 @@ pub record One-opening (m : Meaning) : Type 0 where
   pub opens : (r : Reader) (bs : List ℕ) (s : Statement) (ss : List Statement) → packets.Written r bs s ss → All (Genuine m) (s ∷ ss) → open-packet m r bs ≡ Ok (s, map encode (s ∷ ss))
   pub opened : (r : Reader) (bs : List ℕ) (s : Statement) (ps : List (List ℕ)) → Under 256 bs → open-packet m r bs ≡ Ok (s, ps) → (ss : List Statement) × packets.Written r bs s ss × All (Genuine m) (s ∷ ss) × (ps ≡ map encode (s ∷ ss))
 
--- the refusal that a result holds
-abbrev pub told : {X : Type 0} → Result X Fault → Option Refusal
-told (Ok x) = None
-told (Err e) = Some (refusal e)
-
 -- what is no packet is refused as such; then the first seal that is not genuine gives the refusal
 pub data Refused (m : Meaning) (r : Reader) (bs : List ℕ) : Option Refusal → Type 0 where
-  unread : (x : Refusal) → packets.told (read-packet r bs) ≡ Some x → Refused m r bs (Some x)
+  unread : (x : Refusal) → told of-packet (read-packet r bs) ≡ Some x → Refused m r bs (Some x)
   forged : (s : Statement) (ps : List (List ℕ)) (i : ℕ) → read-packet r bs ≡ Ok (s, ps) → First-failing (genuine-part m) i ps → Refused m r bs (Some (tells 5 layer.Sealer (Some i)))
   opened : (s : Statement) (ps : List (List ℕ)) → read-packet r bs ≡ Ok (s, ps) → Passes (genuine-part m) ps → Refused m r bs None
 
 -- what the answer to some bytes says of them
-pub record Opening (m : Meaning) (r : Reader) (bs : List ℕ) (x : Result Packet Fault) : Type 0 where
-  pub refused : Refused m r bs (told x)
+pub record Opening (m : Meaning) (r : Reader) (bs : List ℕ) (x : Result Packet SealerFault) : Type 0 where
+  pub refused : Refused m r bs (told of-sealer x)
   pub whole : made x (λ p. (ss : List Statement) × packets.Written r bs (p .first) ss × All (Genuine m) (p .first ∷ ss) × (p .parts .now ≡ map encode (p .first ∷ ss)))

@@ -8,13 +8,13 @@ use Rattle.std.specs.declared.result.Result.the-variants.{Ok, Err}
 use Rattle.packet.specs.declared.packets.Packet.{Packet}
 use Rattle.packet.specs.declared.packets.Reader.{Reader}
 use Rattle.packet.specs.declared.statements.Statement.{Statement}
-use Rattle.packet.specs.declared.refusals.Fault as packet
+use Rattle.refusal.specs.declared.packets.PacketFault.{PacketFault}
 use Rattle.packet.specs.Packets as packets
-use Rattle.packet.specs.Parts.{and-then, check-from}
+use Rattle.packet.specs.Parts.{check-from}
+use Rattle.refusal.specs.Refusals.{and-then, carried, from-packet}
 use Rattle.packet.specs.Statements.{body}
-use Rattle.sealer.specs.declared.refusals.Fault.{Fault}
-use Rattle.sealer.specs.declared.refusals.Fault.the-variants.{Seal}
-use Rattle.sealer.specs.Refusals.{from-packet}
+use Rattle.refusal.specs.declared.sealers.SealerFault.{SealerFault}
+use Rattle.refusal.specs.declared.sealers.SealerFault.the-variants.{Seal}
 
 -- which signer, 22 bytes and tag are genuine
 abbrev pub Meaning : Type 0
@@ -34,19 +34,14 @@ abbrev pub genuine-part : Meaning → List ℕ → Bool
 genuine-part m p = m (packets.sealed-part p .0) (packets.sealed-part p .1) (packets.sealed-part p .2)
 
 -- the first part, counted from i, whose seal is not genuine is refused with its place
-abbrev pub check-seals : Meaning → ℕ → List (List ℕ) → Result (Unit {0}) Fault
+abbrev pub check-seals : Meaning → ℕ → List (List ℕ) → Result (Unit {0}) SealerFault
 check-seals m i ps = check-from (genuine-part m) Seal i ps
 
--- the refusal of a layer below, carried
-abbrev pub carried : {X : Type 0} → Result X packet.Fault → Result X Fault
-carried (Ok x) = Ok x
-carried (Err e) = Err (from-packet e)
-
 -- what a reader who checks seals is told of some bytes: first the packet, then every seal in it
-unfoldable pub open-packet : Meaning → Reader → List ℕ → Result (Statement × List (List ℕ)) Fault
-open-packet m r bs = and-then (carried (packets.read-packet r bs)) (λ p. and-then (check-seals m 0 (p .1)) (λ _. Ok p))
+unfoldable pub open-packet : Meaning → Reader → List ℕ → Result (Statement × List (List ℕ)) SealerFault
+open-packet m r bs = and-then (carried from-packet (packets.read-packet r bs)) (λ p. and-then (check-seals m 0 (p .1)) (λ _. Ok p))
 
 -- a packet that was opened, without the reference
-abbrev pub seen : Result Packet Fault → Result (Statement × List (List ℕ)) Fault
+abbrev pub seen : Result Packet SealerFault → Result (Statement × List (List ℕ)) SealerFault
 seen (Ok p) = Ok (p .first, p .parts .now)
 seen (Err e) = Err e

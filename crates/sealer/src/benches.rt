@@ -2,10 +2,10 @@
 ghost use mathlib.Core.Path.{_≡_};
 ghost use Prim.Native.Nat.{_≤_, _<_};
 ghost use Rattle.std.specs.Results.{Cases};
-ghost use Rattle.sealer.specs.declared.refusals.Fault.the-variants.{Number};
+ghost use Rattle.refusal.specs.declared.sealers.SealerFault.the-variants.{Number};
 ghost use Rattle.sealer.specs.Sealers.{bench-tag, bench-genuine};
-use super::refusals::Fault;
 use super::sealers::Sealer;
+use refusal::SealerFault;
 
 #[derive(Drop)]
 pub struct BenchSealer {
@@ -14,11 +14,11 @@ pub struct BenchSealer {
 }
 
 impl BenchSealer {
-    pub fn new(number: u8) -> Result<BenchSealer, Fault>
+    pub fn new(number: u8) -> Result<BenchSealer, SealerFault>
         ensures { λ r. ⌜ Cases r (λ s. (number < 4) × (s .number ≡ number)) (λ e. (4 ≤ number) × (e ≡ Number)) ⌝ }
     {
         if number > 3 {
-            return Err(Fault::Number);
+            return Err(SealerFault::Number);
         }
         Ok(BenchSealer { number })
     }

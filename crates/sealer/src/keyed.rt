@@ -2,11 +2,11 @@
 ghost use mathlib.Core.Path.{_≡_};
 ghost use Prim.Native.Nat.{_≤_, _<_};
 ghost use Rattle.std.specs.Results.{Cases};
-ghost use Rattle.sealer.specs.declared.refusals.Fault.the-variants.{Number};
+ghost use Rattle.refusal.specs.declared.sealers.SealerFault.the-variants.{Number};
 ghost use Rattle.sealer.specs.Sealers.{sip-genuine};
 use super::hashes::siphash;
-use super::refusals::Fault;
 use super::sealers::Sealer;
+use refusal::SealerFault;
 
 #[derive(Drop)]
 pub struct SipSealer {
@@ -17,11 +17,11 @@ pub struct SipSealer {
 
 impl SipSealer {
     // The sealer of one replica. All of a group, and its clients, hold the same four keys.
-    pub fn new(number: u8, keys: [[u8; 16]; 4]) -> Result<SipSealer, Fault>
+    pub fn new(number: u8, keys: [[u8; 16]; 4]) -> Result<SipSealer, SealerFault>
         ensures { λ r. ⌜ Cases r (λ s. (number < 4) × (s .number ≡ number) × (s .keys ≡ keys)) (λ e. (4 ≤ number) × (e ≡ Number)) ⌝ }
     {
         if number > 3 {
-            return Err(Fault::Number);
+            return Err(SealerFault::Number);
         }
         Ok(SipSealer { number, keys })
     }

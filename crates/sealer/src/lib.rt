@@ -3,7 +3,6 @@
 mod benches;
 mod hashes;
 mod keyed;
-mod refusals;
 mod sealers;
 
 pub use benches::BenchSealer;
@@ -11,13 +10,6 @@ pub use benches::BenchSeals;
 pub use hashes::siphash;
 pub use keyed::SipSealer;
 pub use keyed::SipSeals;
-pub use refusals::Fault;
-pub use refusals::FaultDebug;
-pub use refusals::FaultDisplay;
-pub use refusals::FaultEq;
-pub use refusals::FaultError;
-pub use refusals::FaultFromPacket;
-pub use refusals::FaultPartialEq;
 pub use sealers::Sealer;
 pub use sealers::open;
 pub use sealers::sign;

@@ -6,13 +6,13 @@ ghost use Prim.Native.Nat.{ℕ, _<_, _^_};
 ghost use lib.ListN.{length};
 ghost use Rattle.sealer.specs.Laws.{One-opening, Opening};
 ghost use Rattle.sealer.specs.Seals.{Meaning, Signed, check-seals, open-packet, seen};
-use super::refusals::Fault;
-use super::refusals::FaultFromPacket;
 use packet::Packet;
 use packet::Reader;
 use packet::Sealed;
 use packet::Statement;
 use packet::read_packet;
+use refusal::SealerFault;
+use refusal::SealerFaultFromPacket;
 
 // One replica's end of the group's seals. Its meaning is which signer, 22 bytes and tag are genuine.
 pub trait Sealer {
@@ -50,21 +50,25 @@ pub fn sign<S: Sealer>(sealer: &mut S, statement: Statement) -> Statement
     signed
 }
 
-fn check_seals<S: Sealer>(sealer: &S, parts: &[[u8; 30]]) -> Result<(), Fault>
+fn check_seals<S: Sealer>(sealer: &S, parts: &[[u8; 30]]) -> Result<(), SealerFault>
     requires { ⌜ length (now parts) < 2 ^ 32 ⌝ }
     ensures { λ r. ⌜ r ≡ check-seals (genuine (now (sealer .entry))) 0 (now (parts .entry)) ⌝ }
 {
     for i in 0..parts.len() {
         let part = Sealed::of(&parts[i]);
         if !sealer.check(part.signer, part.body, part.seal) {
-            return Err(Fault::Seal { place: i as u32 });
+            return Err(SealerFault::Seal { place: i as u32 });
         }
     }
     Ok(())
 }
 
 // The packet in these bytes, if it is one for this reader and every seal in it is genuine.
-pub fn open<'a, S: Sealer>(sealer: &S, reader: Reader, bytes: &'a [u8]) -> Result<Packet<'a>, Fault>
+pub fn open<'a, S: Sealer>(
+    sealer: &S,
+    reader: Reader,
+    bytes: &'a [u8],
+) -> Result<Packet<'a>, SealerFault>
     ensures exact { λ r. ⌜ seen r ≡ open-packet (genuine (now (sealer .entry))) reader (now (bytes .entry)) ⌝ }
     ensures opening { λ r. ⌜ Opening (genuine (now (sealer .entry))) reader (now (bytes .entry)) r ⌝ }
     ensures law { λ _. ⌜ One-opening (genuine (now (sealer .entry))) ⌝ }

@@ -6,11 +6,11 @@ mod tests {
     use packet::Slot;
     use packet::Statement;
     use packet::View;
+    use refusal::SealerFault;
+    use refusal::SealerFaultDebug;
+    use refusal::SealerFaultPartialEq;
     use sealer::BenchSealer;
     use sealer::BenchSeals;
-    use sealer::Fault;
-    use sealer::FaultDebug;
-    use sealer::FaultPartialEq;
     use sealer::Sealer;
     use sealer::SipSealer;
     use sealer::SipSeals;
@@ -237,7 +237,7 @@ mod tests {
         for place in 0..3u32 {
             match open(&bench, Reader::Replica, &spoiled(good, place as usize)) {
                 Ok(_) => check(false)?,
-                Err(fault) => check(fault == Fault::Seal { place })?,
+                Err(fault) => check(fault == SealerFault::Seal { place })?,
             }
         }
         Ok(())

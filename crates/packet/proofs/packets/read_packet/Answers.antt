@@ -1,7 +1,7 @@
 use borrow.Author.Needs.{needs}
 use native.Mathlib.Omega.{arith}
 use Rattle.std.specs.declared.result.Result.the-variants.{Err}
-use Rattle.packet.specs.declared.refusals.Fault.the-variants.{Length}
+use Rattle.refusal.specs.declared.packets.PacketFault.the-variants.{Length}
 use Rattle.packet.specs.Packets.{read-packet}
 use Rattle.packet.proofs.Readings.{one-packet, reading}
 use Rattle.packet.proofs.packets.read_packet.Needs as need

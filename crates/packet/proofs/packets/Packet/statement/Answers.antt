@@ -7,7 +7,7 @@ use Rattle.std.specs.Options.{okOr}
 use Rattle.std.specs.Results.{okPart}
 use Rattle.std.specs.declared.option.Option.{Option}
 use Rattle.std.specs.declared.option.Option.the-variants.{Some, None}
-use Rattle.packet.specs.declared.refusals.Fault.the-variants as fault
+use Rattle.refusal.specs.declared.packets.PacketFault.the-variants as fault
 use Rattle.packet.specs.Statements.{decode}
 use Rattle.packet.proofs.packets.Packet.statement.Needs as need
 

@@ -1,0 +1,9 @@
+pub mod Lists
+pub mod Groups
+pub mod Votes
+pub mod Reports
+pub mod Rules
+pub mod Decisions
+pub mod Laws
+pub mod Traces
+pub mod Example

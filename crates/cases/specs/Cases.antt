@@ -1,0 +1,11 @@
+-- The whole table, and that each of its lines holds.
+use mathlib.Core.List.{List}
+use Rattle.std.specs.shelf.Lists.{All}
+use Rattle.cases.specs.Lines.{Line, Holds}
+use Rattle.cases.specs.Services.{service-lines}
+
+abbrev pub table : List Line
+table = service-lines
+
+abbrev pub Cases : Type 0
+Cases = All Holds table

@@ -1,0 +1,5 @@
+pub mod Commands
+pub mod Marks
+pub mod Outcomes
+pub mod Recorders
+pub mod Bookings
