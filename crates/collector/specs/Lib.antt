@@ -1,0 +1,2 @@
+pub mod Collectors
+pub mod Laws
