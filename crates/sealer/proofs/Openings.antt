@@ -29,7 +29,7 @@ use Rattle.sealer.specs.Laws.{Genuine, One-opening, Opening, Refused}
 use Rattle.sealer.specs.Laws.Refused.{unread, forged, opened}
 use Rattle.sealer.specs.Seals.{Meaning, check-seals, genuine-part, open-packet, seen}
 
-carried-ok : {X : Type 0} (r : Result X PacketFault) (x : X) → carried from-packet r ≡ Ok x → r ≡ Ok x
+pub carried-ok : {X : Type 0} (r : Result X PacketFault) (x : X) → carried from-packet r ≡ Ok x → r ≡ Ok x
 carried-ok (Ok y) x e = let z : y ≡ x = cc in ap Ok z
 carried-ok (Err d) x e = let z : _≡_ {A = ℕ} 0 1 = cc in absurd (omega arith)
 
@@ -38,7 +38,7 @@ module _ (m : Meaning) where
   part-genuine : (s : Statement) → packets.Sound s → genuine-part m (encode s) ≡ m (s .signer) (body s) (s .seal)
   part-genuine s g = ap (λ t. m (t .0) (t .1) (t .2)) (one-encoding .sealed s g)
 
-  parts-pass : (ss : List Statement) → All packets.Sound ss → All (Genuine m) ss → Passes (genuine-part m) (map encode ss)
+  pub parts-pass : (ss : List Statement) → All packets.Sound ss → All (Genuine m) ss → Passes (genuine-part m) (map encode ss)
   parts-pass [] g a = tt
   parts-pass (s ∷ ss) g a = (part-genuine s (g .0) ∙ a .0, parts-pass ss (g .1) (a .1))
 
@@ -46,7 +46,7 @@ module _ (m : Meaning) where
   all-genuine [] g a = tt
   all-genuine (s ∷ ss) g a = (sym (part-genuine s (g .0)) ∙ a .0, all-genuine ss (g .1) (a .1))
 
-  genuine-there : (ps : List (List ℕ)) (ss : List Statement) → All packets.Sound ss → ps ≡ map encode ss → Passes (genuine-part m) ps → All (Genuine m) ss
+  pub genuine-there : (ps : List (List ℕ)) (ss : List Statement) → All packets.Sound ss → ps ≡ map encode ss → Passes (genuine-part m) ps → All (Genuine m) ss
   genuine-there ps ss g e a = all-genuine ss g (rw e at a)
 
   opens : (r : Reader) (bs : List ℕ) (s : Statement) (ss : List Statement) → packets.Written r bs s ss → All (Genuine m) (s ∷ ss) → open-packet m r bs ≡ Ok (s, map encode (s ∷ ss))

@@ -1,0 +1,8 @@
+// The rules of orders, reports and certificates: who plays which part in a view, and what the statements of a packet, or of
+// a proof that is handed to a primary, have to say together.
+mod roles;
+
+pub use roles::active;
+pub use roles::backups;
+pub use roles::primary;
+pub use roles::spare;
