@@ -1,12 +1,12 @@
 -- The active replicas of a view are three of four.
-use mathlib.Core.Path.{_≡_, sym, ap, subst, _∙_}
-use mathlib.Core.Bool.{cond}
+use mathlib.Core.Path.{_≡_, refl, sym, ap, subst, _∙_}
+use mathlib.Core.Bool.{Bool, true, false, cond}
 use mathlib.Core.Logic.{_⊎_, inl, inr}
 use mathlib.Core.List.{List, [], _∷_}
 use Prim.Native.Nat.{ℕ, _<_}
 use native.Mathlib.Omega.{arith}
 use lib.Dec.{eqb}
-use lib.ListN.{getD}
+use lib.ListN.{getD, length}
 use Rattle.std.proofs.shelf.Tests.{cases-eq, eq-eqb, ne-eqb}
 use Rattle.agreement.specs.Groups.{Quorum}
 use Rattle.agreement.specs.Lists.{Among}
@@ -106,3 +106,11 @@ unfolding backups
 backups-picked v js e =
     let t = three v in
     ap (picked (primary v)) (e ∙ t .are) ∙ (two-left (primary v) (t .low) (t .middle) (t .high) (t .low-middle) (t .middle-high) (t .leads) ∙ ap (without (primary v)) (sym (t .are)))
+
+two-picked : (a b : Bool) (t u v w x y : ℕ) → length (cond a (t ∷ u ∷ []) (cond b (v ∷ w ∷ []) (x ∷ y ∷ []))) ≡ 2
+two-picked true b t u v w x y = refl
+two-picked false true t u v w x y = refl
+two-picked false false t u v w x y = refl
+
+pub backups-two : (v : ℕ) → length (backups v) ≡ 2
+backups-two v = let e = ap length (backups-picked v (active v) refl) in sym e ∙ two-picked (eqb (getD (active v) 0 0) (primary v)) (eqb (getD (active v) 1 0) (primary v)) _ _ _ _ _ _

@@ -1,6 +1,7 @@
 // What a replica takes, and what a primary is handed: statements under genuine seals that keep the rules together.
 ghost use mathlib.Core.Path.{_≡_};
 ghost use Rattle.proof.specs.Checks.{check-decision, check-packet, check-proof, check-rule, seen};
+ghost use Rattle.proof.specs.Laws.{Feeds-agreement, Packets-keep, Proofs-keep, Rest-alike};
 use super::certificates::Choice;
 use packet::Kind;
 use packet::Packet;
@@ -39,7 +40,9 @@ fn check_rule(packet: &Packet<'_>) -> Result<(), ProofFault>
 
 // The packet in these bytes, if a replica takes such a packet, every seal in it is genuine, and it keeps the rule of its kind.
 pub fn check_packet<'a, S: Sealer>(sealer: &S, bytes: &'a [u8]) -> Result<Packet<'a>, ProofFault>
-    ensures { λ r. ⌜ seen r ≡ check-packet (genuine (now (sealer .entry))) (now (bytes .entry)) ⌝ }
+    ensures exact { λ r. ⌜ seen r ≡ check-packet (genuine (now (sealer .entry))) (now (bytes .entry)) ⌝ }
+    ensures law { λ _. ⌜ Packets-keep (genuine (now (sealer .entry))) ⌝ }
+    ensures agreement { λ _. ⌜ Feeds-agreement ⌝ }
 {
     let packet = open(sealer, Reader::Replica, bytes)?;
     check_rule(&packet)?;
@@ -54,7 +57,9 @@ pub fn check_proof<S: Sealer>(
     command: u64,
     bytes: &[u8],
 ) -> Result<(), ProofFault>
-    ensures { λ r. ⌜ r ≡ check-proof (genuine (now (sealer .entry))) (view .0) (slot .0) command (now (bytes .entry)) ⌝ }
+    ensures exact { λ r. ⌜ r ≡ check-proof (genuine (now (sealer .entry))) (view .0) (slot .0) command (now (bytes .entry)) ⌝ }
+    ensures law { λ _. ⌜ Proofs-keep (genuine (now (sealer .entry))) ⌝ }
+    ensures alike { λ _. ⌜ Rest-alike ⌝ }
 {
     let proof = open_proof(sealer, bytes)?;
     let choice = Choice {

@@ -33,7 +33,7 @@ module _ (m : Meaning) where
       let a = and-then-ok (carried from-packet (read-proof bs)) _ ps e in
       let b = and-then-ok (check-seals m 0 (a .0)) _ ps (a .2) in
       let q : a .0 ≡ ps = let o = b .2 in cc in
-      let w = one-proof .writes-back bs ps u (carried-ok _ _ (a .1) ∙ ap Ok q) in
+      let w = one-proof .writes-back bs ps u (carried-ok from-packet _ _ (a .1) ∙ ap Ok q) in
       let p = passes-checked (genuine-part m) Seal 0 (a .0) (b .1) in
       (w .0, w .1, genuine-there m ps (w .0) (w .1 .sound) (w .2) (subst (Passes (genuine-part m)) q p), w .2)
 
