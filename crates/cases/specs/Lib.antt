@@ -1,3 +1,4 @@
 pub mod Cases
 pub mod Lines
+pub mod Proofs
 pub mod Services

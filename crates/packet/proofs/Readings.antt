@@ -41,7 +41,7 @@ pub and-then-ok : {X Y E : Type 0} (r : Result X E) (f : X → Result Y E) (y : 
 and-then-ok (Ok x) f y e = (x, refl, e)
 and-then-ok (Err d) f y e = let z : _≡_ {A = ℕ} 0 1 = cc in absurd (omega arith)
 
-cond-ok : {X E : Type 0} (b : Bool) (r : Result X E) (d : E) (x : X) → cond b r (Err d) ≡ Ok x → (b ≡ true) × (r ≡ Ok x)
+pub cond-ok : {X E : Type 0} (b : Bool) (r : Result X E) (d : E) (x : X) → cond b r (Err d) ≡ Ok x → (b ≡ true) × (r ≡ Ok x)
 cond-ok true r d x e = (refl, e)
 cond-ok false r d x e = let z : _≡_ {A = ℕ} 0 1 = cc in absurd (omega arith)
 
@@ -68,7 +68,7 @@ first-encode : (s : Statement) (rest : List ℕ) → getD (encode s ++ rest) 0 0
 unfolding encode body
 first-encode s rest = refl
 
-length-joined : (ss : List Statement) → length (joined encode ss) ≡ 30 * length ss
+pub length-joined : (ss : List Statement) → length (joined encode ss) ≡ 30 * length ss
 length-joined [] = refl
 length-joined (s ∷ ss) =
     let a = length-append (encode s) (joined encode ss) in
@@ -83,7 +83,7 @@ cut-joined (s ∷ ss) =
     let d = drop-at (encode s) (joined encode ss) 30 (length-encode s) in
     rw (t, d, cut-joined ss)
 
-parts-joined : (ss : List Statement) → parts-of (joined encode ss) ≡ map encode ss
+pub parts-joined : (ss : List Statement) → parts-of (joined encode ss) ≡ map encode ss
 parts-joined ss =
     let l = length-joined ss in
     let n : length (joined encode ss) / 30 ≡ length ss = omega arith in
@@ -92,7 +92,7 @@ parts-joined ss =
 reads-at : (i : ℕ) (s : Statement) → Sound s → read-at i (encode s) ≡ Ok s
 reads-at i s g = ap (λ o. okOr o (fault.Statement i)) (reads-back s g)
 
-all-statements : (ss : List Statement) → All Sound ss → Passes is-statement (map encode ss)
+pub all-statements : (ss : List Statement) → All Sound ss → Passes is-statement (map encode ss)
 all-statements [] g = tt
 all-statements (s ∷ ss) g = (ap isSome (reads-back s (g .0)), all-statements ss (g .1))
 
@@ -114,11 +114,11 @@ packet-back r bs s ss w =
     a ∙ (ap read-parts p ∙ read-written s ss (w .sound))
 
 -- bytes whose parts are statements, joined again
-record Cut (n : ℕ) (bs : List ℕ) : Type 0 where
-  statements : List Statement
-  sound : All Sound statements
-  whole : joined encode statements ≡ bs
-  parts : chunked 30 n bs ≡ map encode statements
+pub record Cut (n : ℕ) (bs : List ℕ) : Type 0 where
+  pub statements : List Statement
+  pub sound : All Sound statements
+  pub whole : joined encode statements ≡ bs
+  pub parts : chunked 30 n bs ≡ map encode statements
 
 cut-more : (n : ℕ) (bs : List ℕ) (s : Statement) → Under 256 bs → decode (take 30 bs) ≡ Some s → (c : Cut n (drop 30 bs)) → All Sound (s ∷ c .statements) × (joined encode (s ∷ c .statements) ≡ bs) × (chunked 30 (suc n) bs ≡ map encode (s ∷ c .statements))
 cut-more n bs s u e c =
@@ -133,7 +133,7 @@ some-statement : (o : Option Statement) → isSome o ≡ true → (s : Statement
 some-statement (Some s) e = (s, refl)
 some-statement None e = let z : _≡_ {A = ℕ} 0 1 = cc in absurd (omega arith)
 
-cut-checked : (n : ℕ) (bs : List ℕ) → Under 256 bs → 30 * n ≡ length bs → Passes is-statement (chunked 30 n bs) → Cut n bs
+pub cut-checked : (n : ℕ) (bs : List ℕ) → Under 256 bs → 30 * n ≡ length bs → Passes is-statement (chunked 30 n bs) → Cut n bs
 cut-checked zero bs u l p = let z = nil-from-length bs (omega arith) in record { statements = []; sound = tt; whole = sym z; parts = refl }
 cut-checked (suc n) bs u l p =
     let s = some-statement (decode (take 30 bs)) (p .0) in

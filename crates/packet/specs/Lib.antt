@@ -5,3 +5,4 @@ pub mod Statements
 pub mod Parts
 pub mod Packets
 pub mod Laws
+pub mod Proofs

@@ -3,6 +3,7 @@
 mod fields;
 mod kinds;
 mod packets;
+mod proofs;
 mod statements;
 
 pub use fields::Slot;
@@ -23,6 +24,8 @@ pub use packets::Packet;
 pub use packets::Reader;
 pub use packets::Sealed;
 pub use packets::read_packet;
+pub use proofs::Proof;
+pub use proofs::read_proof;
 pub use statements::Statement;
 pub use statements::StatementDebug;
 pub use statements::StatementEq;

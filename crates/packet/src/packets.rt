@@ -1,6 +1,6 @@
 // A packet: one or more whole statements, read over the lent bytes.
 ghost use mathlib.Core.Path.{_≡_};
-ghost use Prim.Native.Nat.{_<_, _^_};
+ghost use Prim.Native.Nat.{_≤_, _<_, _^_};
 ghost use lib.ListN.{length, drop};
 ghost use Rattle.packet.specs.Laws.{One-packet, Reading};
 ghost use Rattle.packet.specs.Packets.{takes, has-length, first-kind, check-statements, read-parts, read-packet, statement-at, sealed-part, seen, seen-sealed};
@@ -96,11 +96,12 @@ pub struct Packet<'a> {
     pub parts: &'a [[u8; 30]],
 }
 
-fn check_rest(parts: &[[u8; 30]]) -> Result<(), PacketFault>
-    requires { ⌜ 0 < length (now parts) ⌝ ∗ ⌜ length (now parts) < 2 ^ 32 ⌝ }
-    ensures { λ r. ⌜ r ≡ check-statements 1 (drop 1 (now (parts .entry))) ⌝ }
+// Reads the statements from a place on, and refuses the first that is none.
+pub(crate) fn check_from(first: usize, parts: &[[u8; 30]]) -> Result<(), PacketFault>
+    requires { ⌜ first ≤ length (now parts) ⌝ ∗ ⌜ length (now parts) < 2 ^ 32 ⌝ }
+    ensures { λ r. ⌜ r ≡ check-statements first (drop first (now (parts .entry))) ⌝ }
 {
-    for i in 1..parts.len() {
+    for i in first..parts.len() {
         Statement::read(&parts[i], i as u32)?;
     }
     Ok(())
@@ -111,7 +112,7 @@ fn read_parts(parts: &[[u8; 30]]) -> Result<Packet<'_>, PacketFault>
     ensures { λ r. ⌜ seen r ≡ read-parts (now (parts .entry)) ⌝ }
 {
     let first = Statement::read(&parts[0], 0)?;
-    check_rest(parts)?;
+    check_from(1, parts)?;
     Ok(Packet { first, parts })
 }
 

@@ -8,6 +8,8 @@ use Rattle.refusal.specs.declared.collectors.CollectorFault.{CollectorFault}
 use Rattle.refusal.specs.declared.collectors.CollectorFault.the-variants as collector
 use Rattle.refusal.specs.declared.packets.PacketFault.{PacketFault}
 use Rattle.refusal.specs.declared.packets.PacketFault.the-variants as packet
+use Rattle.refusal.specs.declared.proofs.ProofFault.{ProofFault}
+use Rattle.refusal.specs.declared.proofs.ProofFault.the-variants as proof
 use Rattle.refusal.specs.declared.sealers.SealerFault.{SealerFault}
 use Rattle.refusal.specs.declared.sealers.SealerFault.the-variants as sealer
 use Rattle.refusal.specs.declared.tellings.Layer.{Layer}
@@ -29,6 +31,11 @@ of-sealer (sealer.Packet e) = of-packet e
 of-sealer sealer.Number = tells 4 layer.Packet (Some 0)
 of-sealer (sealer.Seal i) = tells 5 layer.Sealer (Some i)
 
+-- the proof layer's
+abbrev pub of-proof : ProofFault → Refusal
+of-proof (proof.Sealer e) = of-sealer e
+of-proof proof.Rule = tells 6 layer.Proof None
+
 -- the collector's
 abbrev pub of-collector : CollectorFault → Refusal
 of-collector (collector.Sealer e) = of-sealer e
@@ -43,6 +50,9 @@ from-packet e = sealer.Packet e
 
 abbrev pub from-sealer : SealerFault → CollectorFault
 from-sealer e = collector.Sealer e
+
+abbrev pub proof-from-sealer : SealerFault → ProofFault
+proof-from-sealer e = proof.Sealer e
 
 -- the second step on what the first gave, or the first's refusal
 abbrev pub and-then : {X Y E : Type 0} → Result X E → (X → Result Y E) → Result Y E

@@ -2,6 +2,7 @@
 // carries those of the layers below it, so that `?` takes a refusal up with its number, its layer and its place.
 mod collectors;
 mod packets;
+mod proofs;
 mod sealers;
 mod tellings;
 
@@ -18,6 +19,13 @@ pub use packets::PacketFaultDisplay;
 pub use packets::PacketFaultEq;
 pub use packets::PacketFaultError;
 pub use packets::PacketFaultPartialEq;
+pub use proofs::ProofFault;
+pub use proofs::ProofFaultDebug;
+pub use proofs::ProofFaultDisplay;
+pub use proofs::ProofFaultEq;
+pub use proofs::ProofFaultError;
+pub use proofs::ProofFaultFromSealer;
+pub use proofs::ProofFaultPartialEq;
 pub use sealers::SealerFault;
 pub use sealers::SealerFaultDebug;
 pub use sealers::SealerFaultDisplay;

@@ -29,16 +29,16 @@ use Rattle.sealer.specs.Laws.{Genuine, One-opening, Opening, Refused}
 use Rattle.sealer.specs.Laws.Refused.{unread, forged, opened}
 use Rattle.sealer.specs.Seals.{Meaning, check-seals, genuine-part, open-packet, seen}
 
-carried-ok : {X : Type 0} (r : Result X PacketFault) (x : X) → carried from-packet r ≡ Ok x → r ≡ Ok x
-carried-ok (Ok y) x e = let z : y ≡ x = cc in ap Ok z
-carried-ok (Err d) x e = let z : _≡_ {A = ℕ} 0 1 = cc in absurd (omega arith)
+pub carried-ok : {X E F : Type 0} (from : E → F) (r : Result X E) (x : X) → carried from r ≡ Ok x → r ≡ Ok x
+carried-ok from (Ok y) x e = let z : y ≡ x = cc in ap Ok z
+carried-ok from (Err d) x e = let z : _≡_ {A = ℕ} 0 1 = cc in absurd (omega arith)
 
 module _ (m : Meaning) where
   -- the seal in the bytes of a statement is the statement's own
   part-genuine : (s : Statement) → packets.Sound s → genuine-part m (encode s) ≡ m (s .signer) (body s) (s .seal)
   part-genuine s g = ap (λ t. m (t .0) (t .1) (t .2)) (one-encoding .sealed s g)
 
-  parts-pass : (ss : List Statement) → All packets.Sound ss → All (Genuine m) ss → Passes (genuine-part m) (map encode ss)
+  pub parts-pass : (ss : List Statement) → All packets.Sound ss → All (Genuine m) ss → Passes (genuine-part m) (map encode ss)
   parts-pass [] g a = tt
   parts-pass (s ∷ ss) g a = (part-genuine s (g .0) ∙ a .0, parts-pass ss (g .1) (a .1))
 
@@ -46,7 +46,7 @@ module _ (m : Meaning) where
   all-genuine [] g a = tt
   all-genuine (s ∷ ss) g a = (sym (part-genuine s (g .0)) ∙ a .0, all-genuine ss (g .1) (a .1))
 
-  genuine-there : (ps : List (List ℕ)) (ss : List Statement) → All packets.Sound ss → ps ≡ map encode ss → Passes (genuine-part m) ps → All (Genuine m) ss
+  pub genuine-there : (ps : List (List ℕ)) (ss : List Statement) → All packets.Sound ss → ps ≡ map encode ss → Passes (genuine-part m) ps → All (Genuine m) ss
   genuine-there ps ss g e a = all-genuine ss g (rw e at a)
 
   opens : (r : Reader) (bs : List ℕ) (s : Statement) (ss : List Statement) → packets.Written r bs s ss → All (Genuine m) (s ∷ ss) → open-packet m r bs ≡ Ok (s, map encode (s ∷ ss))
@@ -62,7 +62,7 @@ module _ (m : Meaning) where
       let a = and-then-ok (carried from-packet (read-packet r bs)) _ (s, ps) e in
       let b = and-then-ok (check-seals m 0 (a .0 .1)) _ (s, ps) (a .2) in
       let q : _≡_ {A = Statement × List (List ℕ)} (a .0) (s, ps) = let o = b .2 in cc in
-      let w = packet-there r bs s ps u (carried-ok _ _ (a .1) ∙ ap Ok q) in
+      let w = packet-there r bs s ps u (carried-ok from-packet _ _ (a .1) ∙ ap Ok q) in
       let p = passes-checked (genuine-part m) Seal 0 (a .0 .1) (b .1) in
       (w .0, w .1, genuine-there ps (s ∷ w .0) (w .1 .sound) (w .2) (subst (λ t. Passes (genuine-part m) (t .1)) q p), w .2)
 

@@ -3,6 +3,7 @@
 mod benches;
 mod hashes;
 mod keyed;
+mod proofs;
 mod sealers;
 
 pub use benches::BenchSealer;
@@ -10,6 +11,7 @@ pub use benches::BenchSeals;
 pub use hashes::siphash;
 pub use keyed::SipSealer;
 pub use keyed::SipSeals;
+pub use proofs::open_proof;
 pub use sealers::Sealer;
 pub use sealers::open;
 pub use sealers::sign;

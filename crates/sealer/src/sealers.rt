@@ -50,7 +50,8 @@ pub fn sign<S: Sealer>(sealer: &mut S, statement: Statement) -> Statement
     signed
 }
 
-fn check_seals<S: Sealer>(sealer: &S, parts: &[[u8; 30]]) -> Result<(), SealerFault>
+// Checks every seal, and refuses the first that is not genuine.
+pub(crate) fn check_seals<S: Sealer>(sealer: &S, parts: &[[u8; 30]]) -> Result<(), SealerFault>
     requires { ⌜ length (now parts) < 2 ^ 32 ⌝ }
     ensures { λ r. ⌜ r ≡ check-seals (genuine (now (sealer .entry))) 0 (now (parts .entry)) ⌝ }
 {

@@ -3,7 +3,7 @@ use native.Mathlib.Omega.{arith}
 use mathlib.Core.List.{[]}
 use Rattle.std.proofs.shelf.Lists.{at-drop-more, at-drop-all}
 use Rattle.packet.specs.Packets.{check-statements}
-use Rattle.packet.proofs.packets.check_rest.Needs as need
+use Rattle.packet.proofs.packets.check_from.Needs as need
 
 pub returns-in-Break-read : need.returns-in-Break-read
 returns-in-Break-read c =

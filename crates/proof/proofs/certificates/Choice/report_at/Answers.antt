@@ -1,0 +1,19 @@
+use borrow.Author.Needs.{needs}
+use Rattle.proof.specs.Reports.{report-at}
+use Rattle.proof.proofs.certificates.Choice.report_at.Needs as need
+
+pub returns-in-rest : need.returns-in-rest
+unfolding report-at
+returns-in-rest c = search needs
+
+pub returns-then-byte : need.returns-then-byte
+unfolding report-at
+returns-then-byte c = search needs
+
+pub returns-then-not-is-prepared : need.returns-then-not-is-prepared
+unfolding report-at
+returns-then-not-is-prepared c = search needs
+
+pub returns : need.returns
+unfolding report-at
+returns c = search needs

@@ -1,0 +1,5 @@
+pub mod Roles
+pub mod Certificates
+pub mod Reports
+pub mod Checks
+pub mod Laws
