@@ -91,8 +91,8 @@ read-packet r bs = and-then (first-kind r bs) (λ k. cond (has-length k (length 
 abbrev pub statement-at : List (List ℕ) → ℕ → Option Statement
 statement-at ps i = decode (getD ps i [])
 
--- a packet that was read, without the reference
-abbrev pub seen : Result Packet PacketFault → Result (Statement × List (List ℕ)) PacketFault
+-- a packet that was read, without the reference; a layer above answers with faults of its own
+abbrev pub seen : {E : Type 0} → Result Packet E → Result (Statement × List (List ℕ)) E
 seen (Ok p) = Ok (p .first, p .parts .now)
 seen (Err e) = Err e
 

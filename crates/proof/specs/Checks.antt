@@ -8,7 +8,6 @@ use Rattle.std.specs.declared.result.Result.{Result}
 use Rattle.std.specs.declared.result.Result.the-variants.{Ok, Err}
 use Rattle.packet.specs.declared.kinds.Kind.{Kind}
 use Rattle.packet.specs.declared.kinds.Kind.the-variants.{Order, Prepare, Commit, Report, Wish, Checkpoint, Answer}
-use Rattle.packet.specs.declared.packets.Packet.{Packet}
 use Rattle.packet.specs.declared.packets.Reader.the-variants.{Replica}
 use Rattle.packet.specs.declared.statements.Statement.{Statement}
 use Rattle.refusal.specs.Refusals.{and-then, carried, proof-from-sealer}
@@ -42,8 +41,3 @@ check-packet m bs = and-then (carried proof-from-sealer (open-packet m Replica b
 -- the same of the proof for an order of view v, slot n and command c
 unfoldable pub check-proof : Meaning → (v n c : ℕ) → List ℕ → Result (Unit {0}) ProofFault
 check-proof m v n c bs = and-then (carried proof-from-sealer (open-proof m bs)) (λ ps. check-backing v n c ps 0)
-
--- a packet that was checked, without the reference
-abbrev pub seen : Result Packet ProofFault → Result (Statement × List (List ℕ)) ProofFault
-seen (Ok p) = Ok (p .first, p .parts .now)
-seen (Err e) = Err e

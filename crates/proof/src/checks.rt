@@ -1,6 +1,7 @@
 // What a replica takes, and what a primary is handed: statements under genuine seals that keep the rules together.
 ghost use mathlib.Core.Path.{_≡_};
-ghost use Rattle.proof.specs.Checks.{check-decision, check-packet, check-proof, check-rule, seen};
+ghost use Rattle.proof.specs.Checks.{check-decision, check-packet, check-proof, check-rule};
+ghost use Rattle.packet.specs.Packets.{seen};
 ghost use Rattle.proof.specs.Laws.{Feeds-agreement, Packets-keep, Proofs-keep, Rest-alike};
 use super::certificates::Choice;
 use packet::Kind;

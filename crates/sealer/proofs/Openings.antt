@@ -19,7 +19,7 @@ use Rattle.packet.specs.declared.packets.Reader.{Reader}
 use Rattle.refusal.specs.declared.packets.PacketFault.{PacketFault}
 use Rattle.packet.specs.declared.statements.Statement.{Statement}
 use Rattle.packet.specs.Laws as packets
-use Rattle.packet.specs.Packets.{read-packet, sealed-part}
+use Rattle.packet.specs.Packets.{read-packet, seen}
 use Rattle.packet.specs.Parts.{Passes}
 use Rattle.refusal.specs.Refusals.{and-then, carried, from-packet, of-packet, of-sealer, told}
 use Rattle.packet.specs.Statements.{body, encode}
@@ -27,7 +27,7 @@ use Rattle.refusal.specs.declared.sealers.SealerFault.{SealerFault}
 use Rattle.refusal.specs.declared.sealers.SealerFault.the-variants.{Seal}
 use Rattle.sealer.specs.Laws.{Genuine, One-opening, Opening, Refused}
 use Rattle.sealer.specs.Laws.Refused.{unread, forged, opened}
-use Rattle.sealer.specs.Seals.{Meaning, check-seals, genuine-part, open-packet, seen}
+use Rattle.sealer.specs.Seals.{Meaning, check-seals, genuine-part, open-packet}
 
 pub carried-ok : {X E F : Type 0} (from : E → F) (r : Result X E) (x : X) → carried from r ≡ Ok x → r ≡ Ok x
 carried-ok from (Ok y) x e = let z : y ≡ x = cc in ap Ok z

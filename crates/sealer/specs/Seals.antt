@@ -5,7 +5,6 @@ use mathlib.Core.List.{List}
 use Prim.Native.Nat.{ℕ}
 use Rattle.std.specs.declared.result.Result.{Result}
 use Rattle.std.specs.declared.result.Result.the-variants.{Ok, Err}
-use Rattle.packet.specs.declared.packets.Packet.{Packet}
 use Rattle.packet.specs.declared.packets.Reader.{Reader}
 use Rattle.packet.specs.declared.statements.Statement.{Statement}
 use Rattle.refusal.specs.declared.packets.PacketFault.{PacketFault}
@@ -40,8 +39,3 @@ check-seals m i ps = check-from (genuine-part m) Seal i ps
 -- what a reader who checks seals is told of some bytes: first the packet, then every seal in it
 unfoldable pub open-packet : Meaning → Reader → List ℕ → Result (Statement × List (List ℕ)) SealerFault
 open-packet m r bs = and-then (carried from-packet (packets.read-packet r bs)) (λ p. and-then (check-seals m 0 (p .1)) (λ _. Ok p))
-
--- a packet that was opened, without the reference
-abbrev pub seen : Result Packet SealerFault → Result (Statement × List (List ℕ)) SealerFault
-seen (Ok p) = Ok (p .first, p .parts .now)
-seen (Err e) = Err e
