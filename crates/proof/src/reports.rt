@@ -1,7 +1,7 @@
 // Reports, and what the reports behind an order bind it to.
 ghost use mathlib.Core.Path.{_≡_};
 ghost use Prim.Native.Nat.{_≤_};
-ghost use Rattle.proof.specs.Reports.{report-at, behind, reports-from, rising, highest, allows, all-allow, justify, listed, seen-reports, check-reports, check-backing};
+ghost use Rattle.proof.specs.Reports.{reports-on, report-at, behind, reports-from, rising, highest, allows, all-allow, justify, listed, seen-reports, check-reports, check-backing};
 use super::certificates::Choice;
 use super::certificates::statement_at;
 use packet::Kind;
@@ -70,6 +70,15 @@ impl Reports {
 }
 
 impl Choice {
+    // Whether a statement is a report for this view on this slot.
+    fn is_reported(self, report: &Statement) -> bool
+        ensures { λ r. ⌜ r ≡ reports-on (self .view .0) (self .slot .0) (now (report .entry)) ⌝ }
+    {
+        report.kind.byte() == Kind::Report.byte()
+            && report.view == self.view
+            && report.slot == self.slot
+    }
+
     // The report of the group that begins at a place.
     fn report_at(self, parts: &[[u8; 30]], place: usize) -> Result<Statement, ProofFault>
         requires { ⌜ place ≤ 9 ⌝ }
@@ -78,10 +87,7 @@ impl Choice {
         let Some(report) = statement_at(parts, place) else {
             return Err(ProofFault::Rule);
         };
-        if report.kind.byte() != Kind::Report.byte()
-            || report.view != self.view
-            || report.slot != self.slot
-        {
+        if !self.is_reported(&report) {
             return Err(ProofFault::Rule);
         }
         let named = Choice {
