@@ -1,7 +1,9 @@
 // Reports, and what the reports behind an order bind it to.
 ghost use mathlib.Core.Path.{_≡_};
 ghost use Prim.Native.Nat.{_≤_};
-ghost use Rattle.proof.specs.Reports.{reports-on, report-at, behind, reports-from, rising, highest, allows, all-allow, justify, listed, seen-reports, check-reports, check-backing};
+ghost use lib.Dec.{eqb};
+ghost use lib.ListN.{length};
+ghost use Rattle.proof.specs.Reports.{holds, reports-on, report-at, behind, reports-from, rising, highest, allows, all-allow, justify, listed, seen-reports, check-reports, check-backing};
 use super::certificates::Choice;
 use super::certificates::statement_at;
 use packet::Kind;
@@ -20,6 +22,16 @@ fn behind(place: usize, report: &Statement) -> usize
     } else {
         place + 4
     }
+}
+
+// Checks that nothing stands from a place on.
+fn check_end(parts: &[[u8; 30]], place: usize) -> Result<(), ProofFault>
+    ensures { λ r. ⌜ r ≡ holds (eqb (length (now (parts .entry))) place) ⌝ }
+{
+    if parts.len() != place {
+        return Err(ProofFault::Rule);
+    }
+    Ok(())
 }
 
 // Whether a report allows a command, by the highest earlier view that was reported.
@@ -137,12 +149,10 @@ impl Choice {
         requires { ⌜ place ≤ 1 ⌝ }
         ensures { λ r. ⌜ r ≡ check-backing (self .view .0) (self .slot .0) (self .command) (now (parts .entry)) place ⌝ }
     {
-        if self.view.0 != 1 {
-            return self.check_reports(parts, place);
+        if self.view.0 == 1 {
+            check_end(parts, place)
+        } else {
+            self.check_reports(parts, place)
         }
-        if parts.len() != place {
-            return Err(ProofFault::Rule);
-        }
-        Ok(())
     }
 }
