@@ -13,7 +13,7 @@ use Rattle.agreement.specs.Lists.{Among}
 use Rattle.agreement.specs.Lists.Among.{here, there}
 use Rattle.agreement.proofs.Groups.{three-of-four}
 use Rattle.proof.specs.Laws.{Active-quorum, Parts-differ}
-use Rattle.proof.specs.Roles.{primary, spare, active, backups, without}
+use Rattle.proof.specs.Roles.{primary, spare, active, backups, two-of, without}
 
 -- one of three
 pub data One-of (i a b c : ℕ) : Type 0 where
@@ -92,14 +92,14 @@ pub parts-differ : Parts-differ
 parts-differ = record { leads = leads; rests = rests; differ = λ v e. rests v (subst (λ i. Among i (active v)) e (leads v)); either = either }
 
 -- the two that are left without one of three
-two-left : (p a b c : ℕ) → a < b → b < c → One-of p a b c → cond (eqb a p) (b ∷ c ∷ []) (cond (eqb b p) (a ∷ c ∷ []) (a ∷ b ∷ [])) ≡ without p (a ∷ b ∷ c ∷ [])
+two-left : (p a b c : ℕ) → a < b → b < c → One-of p a b c → two-of a b c p ≡ without p (a ∷ b ∷ c ∷ [])
 two-left p a b c ab bc (One-of.first e) = rw (eq-eqb a p (omega arith), ne-eqb b p (λ z. omega arith), ne-eqb c p (λ z. omega arith))
 two-left p a b c ab bc (One-of.second e) = rw (ne-eqb a p (λ z. omega arith), eq-eqb b p (omega arith), ne-eqb c p (λ z. omega arith))
 two-left p a b c ab bc (One-of.third e) = rw (ne-eqb a p (λ z. omega arith), ne-eqb b p (λ z. omega arith), eq-eqb c p (omega arith))
 
 -- the backups, picked from the active list
 abbrev picked : ℕ → List ℕ → List ℕ
-picked p js = cond (eqb (getD js 0 0) p) (getD js 1 0 ∷ getD js 2 0 ∷ []) (cond (eqb (getD js 1 0) p) (getD js 0 0 ∷ getD js 2 0 ∷ []) (getD js 0 0 ∷ getD js 1 0 ∷ []))
+picked p js = two-of (getD js 0 0) (getD js 1 0) (getD js 2 0) p
 
 pub backups-picked : (v : ℕ) (js : List ℕ) → js ≡ active v → picked (primary v) js ≡ backups v
 unfolding backups

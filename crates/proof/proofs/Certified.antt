@@ -112,7 +112,6 @@ module _ (ss : List Statement) (sound : All Sound ss) where
       }
 
   pub is-decided : (v n c : ℕ) → length ss ≡ 3 → decided v n c (map encode ss) ≡ true → Decided v n c ss
-  unfolding decided
   is-decided v n c l h =
       let r = standing ss sound Commit plain-commit v n c 0 (active v) h in
       let t = ap length (three v .are) in

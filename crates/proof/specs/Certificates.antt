@@ -27,5 +27,5 @@ unfoldable pub prepared : (v n c : ℕ) → List (List ℕ) → ℕ → Bool
 prepared v n c ps i = says Order (primary v) v n c (statement-at ps i) && each-says Prepare v n c ps (i + 1) (backups v)
 
 -- the certificate of a decision: the commits of the view's active replicas
-unfoldable pub decided : (v n c : ℕ) → List (List ℕ) → Bool
+abbrev pub decided : (v n c : ℕ) → List (List ℕ) → Bool
 decided v n c ps = each-says Commit v n c ps 0 (active v)

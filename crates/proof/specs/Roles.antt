@@ -22,6 +22,10 @@ without i (j ∷ js) = cond (eqb j i) (without i js) (j ∷ without i js)
 unfoldable pub active : ℕ → List ℕ
 active v = without (spare v) everyone
 
+-- three rising numbers without one of them
+abbrev pub two-of : (low middle high i : ℕ) → List ℕ
+two-of low middle high i = cond (eqb low i) (middle ∷ high ∷ []) (cond (eqb middle i) (low ∷ high ∷ []) (low ∷ middle ∷ []))
+
 -- the active replicas but the primary, by rising number
 unfoldable pub backups : ℕ → List ℕ
 backups v = without (primary v) (active v)

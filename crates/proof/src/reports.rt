@@ -1,7 +1,9 @@
 // Reports, and what the reports behind an order bind it to.
 ghost use mathlib.Core.Path.{_≡_};
 ghost use Prim.Native.Nat.{_≤_};
-ghost use Rattle.proof.specs.Reports.{report-at, behind, reports-from, rising, highest, allows, all-allow, justify, listed, seen-reports, check-reports, check-backing};
+ghost use lib.Dec.{eqb};
+ghost use lib.ListN.{length};
+ghost use Rattle.proof.specs.Reports.{holds, reports-on, report-at, behind, reports-from, rising, highest, allows, all-allow, justify, listed, seen-reports, check-reports, check-backing};
 use super::certificates::Choice;
 use super::certificates::statement_at;
 use packet::Kind;
@@ -20,6 +22,16 @@ fn behind(place: usize, report: &Statement) -> usize
     } else {
         place + 4
     }
+}
+
+// Checks that nothing stands from a place on.
+fn check_end(parts: &[[u8; 30]], place: usize) -> Result<(), ProofFault>
+    ensures { λ r. ⌜ r ≡ holds (eqb (length (now (parts .entry))) place) ⌝ }
+{
+    if parts.len() != place {
+        return Err(ProofFault::Rule);
+    }
+    Ok(())
 }
 
 // Whether a report allows a command, by the highest earlier view that was reported.
@@ -70,6 +82,15 @@ impl Reports {
 }
 
 impl Choice {
+    // Whether a statement is a report for this view on this slot.
+    fn is_reported(self, report: &Statement) -> bool
+        ensures { λ r. ⌜ r ≡ reports-on (self .view .0) (self .slot .0) (now (report .entry)) ⌝ }
+    {
+        report.kind.byte() == Kind::Report.byte()
+            && report.view == self.view
+            && report.slot == self.slot
+    }
+
     // The report of the group that begins at a place.
     fn report_at(self, parts: &[[u8; 30]], place: usize) -> Result<Statement, ProofFault>
         requires { ⌜ place ≤ 9 ⌝ }
@@ -78,10 +99,7 @@ impl Choice {
         let Some(report) = statement_at(parts, place) else {
             return Err(ProofFault::Rule);
         };
-        if report.kind.byte() != Kind::Report.byte()
-            || report.view != self.view
-            || report.slot != self.slot
-        {
+        if !self.is_reported(&report) {
             return Err(ProofFault::Rule);
         }
         let named = Choice {
@@ -131,12 +149,10 @@ impl Choice {
         requires { ⌜ place ≤ 1 ⌝ }
         ensures { λ r. ⌜ r ≡ check-backing (self .view .0) (self .slot .0) (self .command) (now (parts .entry)) place ⌝ }
     {
-        if self.view.0 != 1 {
-            return self.check_reports(parts, place);
+        if self.view.0 == 1 {
+            check_end(parts, place)
+        } else {
+            self.check_reports(parts, place)
         }
-        if parts.len() != place {
-            return Err(ProofFault::Rule);
-        }
-        Ok(())
     }
 }

@@ -2,14 +2,10 @@ use borrow.Author.Needs.{needs}
 use Rattle.proof.specs.Reports.{check-backing}
 use Rattle.proof.proofs.certificates.Choice.check_backing.Needs as need
 
-pub returns-then-self-ne1 : need.returns-then-self-ne1
+pub returns-then-self-eq1 : need.returns-then-self-eq1
 unfolding check-backing
-returns-then-self-ne1 c = search needs
+returns-then-self-eq1 c = search needs
 
-pub returns-then-parts-place : need.returns-then-parts-place
+pub returns-else-self-eq1 : need.returns-else-self-eq1
 unfolding check-backing
-returns-then-parts-place c = search needs
-
-pub returns : need.returns
-unfolding check-backing
-returns c = search needs
+returns-else-self-eq1 c = search needs

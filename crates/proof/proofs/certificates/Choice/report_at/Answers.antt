@@ -6,9 +6,9 @@ pub returns-in-rest : need.returns-in-rest
 unfolding report-at
 returns-in-rest c = search needs
 
-pub returns-then-byte : need.returns-then-byte
+pub returns-then-not-is-reported : need.returns-then-not-is-reported
 unfolding report-at
-returns-then-byte c = search needs
+returns-then-not-is-reported c = search needs
 
 pub returns-then-not-is-prepared : need.returns-then-not-is-prepared
 unfolding report-at
