@@ -9,4 +9,4 @@ use Rattle.cases.proofs.cases_hold.Needs as need
 
 pub returns : need.returns
 unfolding active backups body check-backing check-reports decode encode justify prepared report-at says
-returns c = all-hold table refl
+returns c = record { lines = all-hold table refl; any-command = λ _. refl }
