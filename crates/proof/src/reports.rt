@@ -3,7 +3,7 @@ ghost use mathlib.Core.Path.{_≡_};
 ghost use Prim.Native.Nat.{_≤_};
 ghost use lib.Dec.{eqb};
 ghost use lib.ListN.{length};
-ghost use Rattle.proof.specs.Reports.{holds, reports-on, report-at, behind, reports-from, rising, highest, allows, all-allow, justify, listed, seen-reports, check-reports, check-backing};
+ghost use Rattle.proof.specs.Reports.{holds, reports-on, certified, report-at, behind, reports-from, rising, highest, allows, all-allow, justify, listed, seen-reports, check-reports, check-backing};
 use super::certificates::Choice;
 use super::certificates::statement_at;
 use packet::Kind;
@@ -91,6 +91,19 @@ impl Choice {
             && report.slot == self.slot
     }
 
+    // Whether a report stands alone, or its certificate stands at a place.
+    fn is_certified(self, report: &Statement, parts: &[[u8; 30]], place: usize) -> bool
+        requires { ⌜ place ≤ 10 ⌝ }
+        ensures { λ r. ⌜ r ≡ certified (self .slot .0) (now (parts .entry)) place (now (report .entry)) ⌝ }
+    {
+        let named = Choice {
+            view: report.earlier,
+            slot: self.slot,
+            command: report.command,
+        };
+        report.earlier.0 == 0 || named.is_prepared(parts, place)
+    }
+
     // The report of the group that begins at a place.
     fn report_at(self, parts: &[[u8; 30]], place: usize) -> Result<Statement, ProofFault>
         requires { ⌜ place ≤ 9 ⌝ }
@@ -99,15 +112,7 @@ impl Choice {
         let Some(report) = statement_at(parts, place) else {
             return Err(ProofFault::Rule);
         };
-        if !self.is_reported(&report) {
-            return Err(ProofFault::Rule);
-        }
-        let named = Choice {
-            view: report.earlier,
-            slot: self.slot,
-            command: report.command,
-        };
-        if report.earlier.0 != 0 && !named.is_prepared(parts, place + 1) {
+        if !self.is_reported(&report) || !self.is_certified(&report, parts, place + 1) {
             return Err(ProofFault::Rule);
         }
         Ok(report)

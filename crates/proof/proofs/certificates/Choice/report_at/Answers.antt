@@ -10,10 +10,6 @@ pub returns-then-not-is-reported : need.returns-then-not-is-reported
 unfolding report-at
 returns-then-not-is-reported c = search needs
 
-pub returns-then-not-is-prepared : need.returns-then-not-is-prepared
-unfolding report-at
-returns-then-not-is-prepared c = search needs
-
 pub returns : need.returns
 unfolding report-at
 returns c = search needs
