@@ -1,5 +1,7 @@
 // The law of agreement, for any number of faults. Each function states one law in its contract and does nothing else.
 // The definitions are in `specs`, and `docs/agreement.md` has the argument in words.
+#![tactic(auto)]
+
 ghost use Rattle.agreement.specs.Laws.{QuorumsOverlap, CertificatesAgree, SettledBinds, SettledAgree, OneList};
 ghost use Rattle.agreement.specs.Traces.{InSoundGroups, UnderRules};
 ghost use Rattle.agreement.specs.Example.{RulesKept};

@@ -2,6 +2,8 @@
 //
 // A place has a flag that says whether a ballot stands in it, and not an `Option` around the ballot:
 // so an array of places is flat, and a C or C++ program can hold it in its own memory.
+#![tactic(auto)]
+
 ghost use Rattle.std.specs.Prelude.{◌≡◌, Bool, true};
 ghost use Rattle.ballot.specs.Counting.{count_of, Counting};
 

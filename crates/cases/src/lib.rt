@@ -1,4 +1,6 @@
 // The worked cases of the documents, as one table.
+#![tactic(auto)]
+
 ghost use Rattle.cases.specs.Cases.{Cases};
 
 // Promises that every line of the table holds, and does nothing.

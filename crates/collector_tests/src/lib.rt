@@ -1,4 +1,6 @@
 // The collector at its edges: results of four replicas, and each refusal in its order.
+#![tactic(auto)]
+
 #[cfg(test)]
 mod tests {
     use collector::{Unclosed, Waiting};

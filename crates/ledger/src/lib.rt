@@ -1,5 +1,7 @@
 // The law of one replica's pages. The function states it in its contract and does nothing else.
 // The definitions are in `specs`, and `docs/ledger.md` has the argument in words.
+#![tactic(auto)]
+
 ghost use Rattle.ledger.specs.Laws.{RulesKept};
 
 // A replica that writes its pages by these deeds keeps the rules, whatever it is sent and in whatever order. It accepts

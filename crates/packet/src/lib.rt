@@ -1,5 +1,7 @@
 // Statements of thirty bytes and the packets that carry them: one encoding, read and written alike.
 // Clients ship this crate without the replica.
+#![tactic(auto)]
+
 mod fields;
 mod kinds;
 mod packets;

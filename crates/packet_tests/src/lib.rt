@@ -1,5 +1,7 @@
 // The edges of the packet format, as tables: each field's first and last allowed number, each kind, each length, each
 // reader, and the place of the first bad statement.
+#![tactic(auto)]
+
 #[cfg(test)]
 mod tests {
     use packet::{Kind, Reader, Slot, Statement, View, read_packet};

@@ -1,5 +1,7 @@
 // The rules of orders, reports and certificates: who plays which part in a view, and what the statements of a packet, or of
 // a proof that is handed to a primary, have to say together.
+#![tactic(auto)]
+
 mod certificates;
 mod checks;
 mod reports;

@@ -1,4 +1,6 @@
 // Roles at the edges of the views, the lengths of orders and proofs, and each rule broken once.
+#![tactic(auto)]
+
 #[cfg(test)]
 mod tests {
     use packet::{Kind, Slot, Statement, View};

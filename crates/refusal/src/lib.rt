@@ -1,5 +1,7 @@
 // The refusals of all layers: why a call refuses, and what a refusal tells. Every layer has an error enum of its own, which
 // carries those of the layers below it, so that `?` takes a refusal up with its number, its layer and its place.
+#![tactic(auto)]
+
 mod collectors;
 mod packets;
 mod proofs;

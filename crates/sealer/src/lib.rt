@@ -1,5 +1,7 @@
 // Seals: what is genuine under which replica's number, and the two sealers.
 // Clients ship this crate without the replica.
+#![tactic(auto)]
+
 mod benches;
 mod hashes;
 mod keyed;

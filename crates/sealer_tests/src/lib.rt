@@ -1,4 +1,6 @@
 // SipHash-2-4 on its authors' vectors, the bench tag by hand, and the edges of sealing and opening.
+#![tactic(auto)]
+
 #[cfg(test)]
 mod tests {
     use packet::{Kind, Reader, Slot, Statement, View};

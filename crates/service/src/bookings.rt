@@ -103,7 +103,7 @@ impl Service for Booking {
 
     ghost state = { λ s. s.holders };
 
-    ghost result = { booking_result };
+    ghost answer = { booking_result };
 
     ghost next = { booking_next };
 

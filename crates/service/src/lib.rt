@@ -2,6 +2,8 @@
 //
 // A command is eight bytes, and so is the answer to it; both are passed as a `u64`, high byte
 // first.
+#![tactic(auto)]
+
 mod bookings;
 mod marks;
 mod recorders;

@@ -101,7 +101,7 @@ impl Service for Recorder {
 
     ghost state = { λ s. s.channels };
 
-    ghost result = { recorder_result };
+    ghost answer = { recorder_result };
 
     ghost next = { recorder_next };
 

@@ -11,7 +11,7 @@ pub trait Service {
     ghost state: { Self → State };
 
     // The answer to a command in a state.
-    ghost result: { State → ℕ → ℕ };
+    ghost answer: { State → ℕ → ℕ };
 
     // The state after a command.
     ghost next: { State → ℕ → State };
@@ -21,7 +21,7 @@ pub trait Service {
 
     // Carries out a command, and answers its result.
     fn apply(&mut self, command: u64) -> u64
-        ensures* value { λ r. ⌜ r ≡ result (state self.old) command ⌝ }
+        ensures value { result ≡ answer (state self.old) command }
         ensures after { state self.new ≡ next (state self.old) command };
 
     // A number by which states can be compared.
