@@ -37,8 +37,8 @@ pub trait Ballot {
 // How many places hold a ballot equal to `like`. An empty place counts nothing, and `like` itself
 // counts only where it stands in a place.
 pub fn count<B: Ballot>(places: &[B], like: &B) -> usize
-    ensures value { result ≡ count_of B.Ballot.held B.Ballot.same places.now like.now }
-    ensures laws { Counting B.Ballot.held B.Ballot.same }
+    ensures value { result ≡ count_of B.held B.same places.now like.now }
+    ensures laws { Counting B.held B.same }
 {
     let mut counted = 0;
     for place in places {

@@ -76,8 +76,8 @@ impl Waiting {
 
     // Takes a replica's answer, if it is under a genuine seal, for this slot and the first of its signer.
     pub fn add<S: Sealer>(&mut self, sealer: &S, bytes: &[u8]) -> Result<(), CollectorFault>
-        ensures answer { result ≡ (added (S.Sealer.genuine sealer.now) self.old bytes.now).0 }
-        ensures after { self.new ≡ (added (S.Sealer.genuine sealer.now) self.old bytes.now).1 }
+        ensures answer { result ≡ (added (S.genuine sealer.now) self.old bytes.now).0 }
+        ensures after { self.new ≡ (added (S.genuine sealer.now) self.old bytes.now).1 }
     {
         let packet = open(sealer, Reader::Collector, bytes)?;
         let answer = packet.first;

@@ -38,10 +38,13 @@ kind_back Answer = refl
 same_fields : (s : Statement) (v l e c m : ℕ) → v ≡ s.view.0 → l ≡ s.slot.0 → e ≡ s.earlier.0 → c ≡ s.command → m ≡ s.seal → statement s.kind s.signer v l e c m ≡ s
 same_fields s v l e c m ev el ee ec em = rw (ev, el, ee, ec, em)
 
-fields_back : (s : Statement) → Fits s → s.seal < 256 ^ 8 → fields s.kind (encode s) ≡ s
+fields_again : (s : Statement) → Fits s → s.seal < 256 ^ 8 → fields s.kind (encode s) ≡ s
 unfolding encode body
-fields_back s f t =
+fields_again s f t =
     same_fields s _ _ _ _ _ (four_back s.view.0 f.view) (four_back s.slot.0 f.slot) (four_back s.earlier.0 f.earlier) (eight_back s.command f.command) (eight_back s.seal t)
+
+fields_back : (s : Statement) → Sound s → fields s.kind (encode s) ≡ s
+fields_back s g = fields_again s g.fits g.seal
 
 first_byte : (s : Statement) → get_or (encode s) 0 0 ≡ byte_of s.kind
 unfolding encode body
@@ -52,12 +55,12 @@ pub same_encoding : (r s : Statement) → Fits r → r.seal < 256 ^ 8 → Fits s
 same_encoding r s f t g u e =
     let k : ◌≡◌ {A = Option Kind} (Some r.kind) (Some s.kind) = sym (kind_back r.kind) ∙ ap kind_of (sym (first_byte r) ∙ ap (λ bs. get_or bs 0 0) e ∙ first_byte s) ∙ kind_back s.kind in
     let q : r.kind ≡ s.kind = cc in
-    sym (fields_back r f t) ∙ ap (λ k. fields k (encode r)) q ∙ ap (fields s.kind) e ∙ fields_back s g u
+    sym (fields_again r f t) ∙ ap (λ k. fields k (encode r)) q ∙ ap (fields s.kind) e ∙ fields_again s g u
 
 pub reads_back : (s : Statement) → Sound s → decode (encode s) ≡ Some s
 unfolding decode encode body
 reads_back s g =
-    ap (λ o. then_some o (λ k. if_proper (fields k (encode s)))) (kind_back s.kind) ∙ (ap if_proper (fields_back s g.fits g.seal) ∙ cond-true (proper s) _ _ g.kept)
+    ap (λ o. then_some o (λ k. if_proper (fields k (encode s)))) (kind_back s.kind) ∙ (ap if_proper (fields_back s g) ∙ cond-true (proper s) _ _ g.kept)
 
 -- what is read writes back
 kind_there : (b : ℕ) (k : Kind) → kind_of b ≡ Some k → byte_of k ≡ b

@@ -1,12 +1,12 @@
 -- What the roles and the rules keep, in the words of the law of agreement.
-use Rattle.std.specs.Prelude.{◌≡◌, ℕ, ◌<◌, ◌⊎◌, List, [], ◌∷◌, ◌++◌, map, Ok}
+use Rattle.std.specs.Prelude.{◌≡◌, ℕ, ◌<◌, T, ◌⊎◌, List, [], ◌∷◌, ◌++◌, map, Ok}
 use Rattle.std.specs.Int.Digits.{AllBelowBase}
 use Rattle.std.specs.List.{AllByRecursion as All}
 use Rattle.agreement.specs.Groups.{Correct, Quorum}
 use Rattle.agreement.specs.Lists.{Among}
 use Rattle.agreement.specs.Reports as agreement
 use Rattle.agreement.specs.Traces.{Trace, execution}
-use Rattle.agreement.specs.Votes.{Execution, Settled}
+use Rattle.agreement.specs.Votes.{Settled}
 use Rattle.packet.specs.Laws.{Written}
 use Rattle.packet.specs.Proofs.{ProofWritten}
 use Rattle.packet.specs.Statements.{encode, statement}
@@ -124,23 +124,23 @@ ProofsKeep m = (v n c : ℕ) (bs : List ℕ) → AllBelowBase 256 bs → check_p
 abbrev pub RestAlike : Type 0
 RestAlike = (v n c : ℕ) (p : List ℕ) (ps : List (List ℕ)) → check_backing v n c (p ∷ ps) 1 ≡ check_backing v n c ps 0
 
--- what its signer did, by an execution of the group, if it signed the statement
-abbrev pub Recorded : Execution → Kind → (i v n e c : ℕ) → Type 0
-Recorded x Order i v n e c = x.Voted i v n c
-Recorded x Prepare i v n e c = x.Voted i v n c
-Recorded x Commit i v n e c = x.Committed i v n c
-Recorded x Report i v n e c = x.Reported i v n e c
-Recorded x Wish i v n e c = Unit {0}
-Recorded x Checkpoint i v n e c = Unit {0}
-Recorded x Answer i v n e c = Unit {0}
+-- what its signer did, by a trace of the group, if it signed the statement
+abbrev pub Recorded : Trace → Kind → (i v n e c : ℕ) → Type 0
+Recorded t Order i v n e c = T (t.voted i v n c)
+Recorded t Prepare i v n e c = T (t.voted i v n c)
+Recorded t Commit i v n e c = T (t.committed i v n c)
+Recorded t Report i v n e c = T (t.reported i v n e c)
+Recorded t Wish i v n e c = Unit {0}
+Recorded t Checkpoint i v n e c = Unit {0}
+Recorded t Answer i v n e c = Unit {0}
 
 -- A group of four with these roles, in which none of the statements is forged under a correct replica's number.
-pub record Unforged (x : Execution) (ss : List Statement) : Type 0 where
-  pub four : x.group.faults ≡ 1
-  pub roles : (v : ℕ) → x.group.active v ≡ active v
-  pub signed : (s : Statement) → Among s ss → Correct x.group s.signer → Recorded x s.kind s.signer s.view.0 s.slot.0 s.earlier.0 s.command
+pub record Unforged (t : Trace) (ss : List Statement) : Type 0 where
+  pub four : t.group.faults ≡ 1
+  pub roles : (v : ℕ) → t.group.active v ≡ active v
+  pub signed : (s : Statement) → Among s ss → Correct t.group s.signer → Recorded t s.kind s.signer s.view.0 s.slot.0 s.earlier.0 s.command
 
 -- what the law of agreement takes from the rules: reports justify a vote, and a decision's command is settled
 pub record FeedsAgreement : Type 0 where
-  pub votes : (t : Trace) (v n c : ℕ) (ss : List Statement) → Unforged (execution t) ss → Justified v n c ss → agreement.Justification (execution t) v n c
-  pub decisions : (t : Trace) (v n c : ℕ) (ss : List Statement) → Unforged (execution t) ss → Decided v n c ss → Settled (execution t) v n c
+  pub votes : (t : Trace) (v n c : ℕ) (ss : List Statement) → Unforged t ss → Justified v n c ss → agreement.Justification (execution t) v n c
+  pub decisions : (t : Trace) (v n c : ℕ) (ss : List Statement) → Unforged t ss → Decided v n c ss → Settled (execution t) v n c

@@ -35,8 +35,8 @@ fn check_rule(packet: &Packet<'_>) -> Result<(), ProofFault>
 
 // The packet in these bytes, if a replica takes such a packet, every seal in it is genuine, and it keeps the rule of its kind.
 pub fn check_packet<'a, S: Sealer>(sealer: &S, bytes: &'a [u8]) -> Result<Packet<'a>, ProofFault>
-    ensures exact { seen result ≡ check_packet (genuine sealer.now) bytes.now }
-    ensures law { PacketsKeep (genuine sealer.now) }
+    ensures exact { seen result ≡ check_packet (S.genuine sealer.now) bytes.now }
+    ensures law { PacketsKeep (S.genuine sealer.now) }
     ensures agreement { FeedsAgreement }
 {
     let packet = open(sealer, Reader::Replica, bytes)?;
@@ -52,8 +52,8 @@ pub fn check_proof<S: Sealer>(
     command: u64,
     bytes: &[u8],
 ) -> Result<(), ProofFault>
-    ensures exact { result ≡ check_proof (genuine sealer.now) view.0 slot.0 command bytes.now }
-    ensures law { ProofsKeep (genuine sealer.now) }
+    ensures exact { result ≡ check_proof (S.genuine sealer.now) view.0 slot.0 command bytes.now }
+    ensures law { ProofsKeep (S.genuine sealer.now) }
     ensures alike { RestAlike }
 {
     let proof = open_proof(sealer, bytes)?;

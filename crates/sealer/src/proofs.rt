@@ -9,8 +9,8 @@ use refusal::SealerFault;
 
 // The statements in these bytes, if they have a proof's length and every seal in them is genuine.
 pub fn open_proof<'a, S: Sealer>(sealer: &S, bytes: &'a [u8]) -> Result<Proof<'a>, SealerFault>
-    ensures exact { seen_proof result ≡ open_proof (genuine sealer.now) bytes.now }
-    ensures law { OneProofOpening (genuine sealer.now) }
+    ensures exact { seen_proof result ≡ open_proof (S.genuine sealer.now) bytes.now }
+    ensures law { OneProofOpening (S.genuine sealer.now) }
 {
     let proof = read_proof(bytes)?;
     check_seals(sealer, proof.parts)?;

@@ -32,9 +32,9 @@ pub trait Sealer {
 
 // The statement under the sealer's own number, sealed.
 pub fn sign<S: Sealer>(sealer: &mut S, statement: Statement) -> Statement
-    ensures signed { Signed (genuine sealer.old) (own sealer.old) statement result }
-    ensures number { own sealer.new ≡ own sealer.old }
-    ensures meaning { genuine sealer.new ≡ genuine sealer.old }
+    ensures signed { Signed (S.genuine sealer.old) (S.own sealer.old) statement result }
+    ensures number { S.own sealer.new ≡ S.own sealer.old }
+    ensures meaning { S.genuine sealer.new ≡ S.genuine sealer.old }
 {
     let mut signed = statement;
     signed.signer = sealer.number();
@@ -46,7 +46,7 @@ pub fn sign<S: Sealer>(sealer: &mut S, statement: Statement) -> Statement
 // Checks every seal, and refuses the first that is not genuine.
 pub(crate) fn check_seals<S: Sealer>(sealer: &S, parts: &[[u8; 30]]) -> Result<(), SealerFault>
     requires { length parts.now < 2 ^ 32 }
-    ensures { result ≡ check_seals (genuine sealer.now) 0 parts.now }
+    ensures { result ≡ check_seals (S.genuine sealer.now) 0 parts.now }
 {
     for i in 0..parts.len() {
         let part = Sealed::of(&parts[i]);
@@ -63,9 +63,9 @@ pub fn open<'a, S: Sealer>(
     reader: Reader,
     bytes: &'a [u8],
 ) -> Result<Packet<'a>, SealerFault>
-    ensures exact { seen result ≡ open_packet (genuine sealer.now) reader bytes.now }
-    ensures opening { Opening (genuine sealer.now) reader bytes.now result }
-    ensures law { OneOpening (genuine sealer.now) }
+    ensures exact { seen result ≡ open_packet (S.genuine sealer.now) reader bytes.now }
+    ensures opening { Opening (S.genuine sealer.now) reader bytes.now result }
+    ensures law { OneOpening (S.genuine sealer.now) }
 {
     let packet = read_packet(reader, bytes)?;
     check_seals(sealer, packet.parts)?;

@@ -31,7 +31,7 @@ pub trait Service {
 
 // Carries out the commands in turn, and lets the answers go.
 pub fn apply_all<S: Service>(service: &mut S, commands: &[u64])
-    ensures { S.Service.state service.new ≡ run S.Service.next (S.Service.state service.old) commands.now }
+    ensures { S.state service.new ≡ run S.next (S.state service.old) commands.now }
 {
     for command in commands {
         service.apply(*command);

@@ -3,13 +3,13 @@ use Rattle.packet.specs.Proofs.{has_proof_length, read_proof}
 use Rattle.packet.proofs.Runs.{one_proof, proof_length}
 use Rattle.packet.proofs.proofs.read_proof.Goals as goal
 
-pub returns-then-not-is-proof-length : goal.returns-then-not-is-proof-length
+pub returns-then-not-is_proof_length : goal.returns-then-not-is_proof_length
 unfolding read_proof
-returns-then-not-is-proof-length c = record { exact = search rules; few = tt; law = one_proof }
+returns-then-not-is_proof_length c = record { exact = search rules; few = tt; law = one_proof }
 
-pub returns-in-err-check-from : goal.returns-in-err-check-from
+pub returns-in_err-check_from : goal.returns-in_err-check_from
 unfolding read_proof
-returns-in-err-check-from c = record { exact = search rules; few = search rules; law = one_proof }
+returns-in_err-check_from c = record { exact = search rules; few = search rules; law = one_proof }
 
 pub returns : goal.returns
 unfolding read_proof

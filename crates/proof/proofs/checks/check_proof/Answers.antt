@@ -4,9 +4,9 @@ use Rattle.proof.proofs.Kept.{proofs_keep}
 use Rattle.proof.proofs.Shifted.{rest_alike}
 use Rattle.proof.proofs.checks.check_proof.Goals as goal
 
-pub returns-in-err-proof : goal.returns-in-err-proof
+pub returns-in_err-proof : goal.returns-in_err-proof
 unfolding check_proof
-returns-in-err-proof g c = record { exact = search rules; law = proofs_keep _; alike = rest_alike }
+returns-in_err-proof g c = record { exact = search rules; law = proofs_keep _; alike = rest_alike }
 
 pub returns : goal.returns
 unfolding check_proof

@@ -8,16 +8,16 @@ pub loop-i-init : goal.loop-i-init
 unfolding low
 loop-i-init c = rw sub_self (refl, omega arith)
 
-pub overflow-mul-word : goal.overflow-mul-word
-overflow-mul-word c = omega (arith, seven_small c.loop-i.word (c.args.count - c.loop-i.i) (omega arith) c.loop-i.invariant.1)
+pub overflow_mul-word : goal.overflow_mul-word
+overflow_mul-word c = omega (arith, seven_small c.loop-i.word (c.args.count - c.loop-i.i) (omega arith) c.loop-i.invariant.1)
 
-pub overflow-add-word : goal.overflow-add-word
-overflow-add-word c =
-    omega (arith, seven_small c.loop-i.word (c.args.count - c.loop-i.i) (omega arith) c.loop-i.invariant.1, c.type-inv.bytes (c.args.at + (c.loop-i.i - 1)))
+pub overflow_add-word : goal.overflow_add-word
+overflow_add-word c =
+    omega (arith, seven_small c.loop-i.word (c.args.count - c.loop-i.i) (omega arith) c.loop-i.invariant.1, c.type_inv.bytes (c.args.at + (c.loop-i.i - 1)))
 
 pub loop-i-preserved : goal.loop-i-preserved
 loop-i-preserved c =
-    (low_more c.args.bytes.now c.args.count c.loop-i.i c.args.at c.loop-i.word c.loop-i-test.true c.loop-i.auto.i c.loop-i.invariant.0, small_more c.args.count c.loop-i.i c.loop-i.word (get_or c.args.bytes.now (c.args.at + (c.loop-i.i - 1)) 0) c.loop-i-test.true c.loop-i.auto.i (omega (arith, c.type-inv.bytes (c.args.at + (c.loop-i.i - 1)))) c.loop-i.invariant.1)
+    (low_more c.args.bytes.now c.args.count c.loop-i.i c.args.at c.loop-i.word c.loop-i-test.true c.loop-i.auto.i c.loop-i.invariant.0, small_more c.args.count c.loop-i.i c.loop-i.word (get_or c.args.bytes.now (c.args.at + (c.loop-i.i - 1)) 0) c.loop-i-test.true c.loop-i.auto.i (omega (arith, c.type_inv.bytes (c.args.at + (c.loop-i.i - 1)))) c.loop-i.invariant.1)
 
 pub returns : goal.returns
 returns c =

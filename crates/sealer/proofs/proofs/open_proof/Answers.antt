@@ -3,13 +3,13 @@ use Rattle.sealer.specs.Proofs.{open_proof}
 use Rattle.sealer.proofs.Runs.{one_proof_opening}
 use Rattle.sealer.proofs.proofs.open_proof.Goals as goal
 
-pub returns-in-err-proof : goal.returns-in-err-proof
+pub returns-in_err-proof : goal.returns-in_err-proof
 unfolding open_proof
-returns-in-err-proof g c = record { exact = search rules; law = one_proof_opening _ }
+returns-in_err-proof g c = record { exact = search rules; law = one_proof_opening _ }
 
-pub returns-in-err-check-seals : goal.returns-in-err-check-seals
+pub returns-in_err-check_seals : goal.returns-in_err-check_seals
 unfolding open_proof
-returns-in-err-check-seals g c = record { exact = search rules; law = one_proof_opening _ }
+returns-in_err-check_seals g c = record { exact = search rules; law = one_proof_opening _ }
 
 pub returns : goal.returns
 unfolding open_proof

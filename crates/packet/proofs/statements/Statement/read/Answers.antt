@@ -3,13 +3,13 @@ use Rattle.packet.specs.Statements.{decode}
 use Rattle.packet.proofs.Encodings.{one_encoding}
 use Rattle.packet.proofs.statements.Statement.read.Goals as goal
 
-pub returns-in-default : goal.returns-in-default
+pub returns-in_default : goal.returns-in_default
 unfolding decode
-returns-in-default c = record { exact = search rules; law = one_encoding }
+returns-in_default c = record { exact = search rules; law = one_encoding }
 
-pub returns-then-not-is-proper : goal.returns-then-not-is-proper
+pub returns-then-not-is_proper : goal.returns-then-not-is_proper
 unfolding decode
-returns-then-not-is-proper c = record { exact = search rules; law = one_encoding }
+returns-then-not-is_proper c = record { exact = search rules; law = one_encoding }
 
 pub returns : goal.returns
 unfolding decode

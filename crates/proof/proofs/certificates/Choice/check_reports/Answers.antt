@@ -2,9 +2,9 @@ use Rattle.std.proofs.Common.{rules}
 use Rattle.proof.specs.Reports.{check_reports}
 use Rattle.proof.proofs.certificates.Choice.check_reports.Goals as goal
 
-pub returns-in-err-reports : goal.returns-in-err-reports
+pub returns-in_err-reports : goal.returns-in_err-reports
 unfolding check_reports
-returns-in-err-reports c = search rules
+returns-in_err-reports c = search rules
 
 pub returns-then-not-justify : goal.returns-then-not-justify
 unfolding check_reports

@@ -2,9 +2,9 @@ use Rattle.std.proofs.Common.{rules}
 use Rattle.proof.specs.Certificates.{says}
 use Rattle.proof.proofs.certificates.Choice.is_said.Goals as goal
 
-pub returns-in-default : goal.returns-in-default
+pub returns-in_default : goal.returns-in_default
 unfolding says
-returns-in-default c = search rules
+returns-in_default c = search rules
 
 pub returns-then-eq-2 : goal.returns-then-eq-2
 unfolding says
