@@ -10,14 +10,14 @@ mod tests {
     use std::process::Abort;
     use std::test::Fail;
 
-    fn answer(signer: u8, slot: u32, res: u64) -> Result<[u8; 30], SealerFault> {
+    fn answer(signer: u8, slot: u32, outcome: u64) -> Result<[u8; 30], SealerFault> {
         let unsealed = Statement {
             kind: Kind::Answer,
             signer: 0,
             view: View(0),
             slot: Slot(slot),
             earlier: View(0),
-            command: res,
+            command: outcome,
             seal: 0,
         };
         let mut replica = BenchSealer::new(signer)?;

@@ -14,7 +14,7 @@ pub fn answer(
     number: u8,
     keys: [[u8; 16]; 4],
     slot: Slot,
-    res: u64,
+    outcome: u64,
 ) -> Result<[u8; 30], SealerFault> {
     let mut replica = SipSealer::new(number, keys)?;
     let unsealed = Statement {
@@ -23,7 +23,7 @@ pub fn answer(
         view: View(0),
         slot,
         earlier: View(0),
-        command: res,
+        command: outcome,
         seal: 0,
     };
     Ok(sign(&mut replica, unsealed).write())

@@ -58,10 +58,10 @@ fn send(
     waiting: &mut Waiting,
     slot: Slot,
     number: u8,
-    res: u64,
+    outcome: u64,
 ) -> anyhow::Result<()> {
-    println!(rt; "replica {number} answers {res} for slot {}", slot.0)?;
-    hand_in(rt, client, waiting, &answer(number, KEYS, slot, res)?)
+    println!(rt; "replica {number} answers {outcome} for slot {}", slot.0)?;
+    hand_in(rt, client, waiting, &answer(number, KEYS, slot, outcome)?)
 }
 
 // Three replicas answer, and the second lies: the collector has its result once the third has answered.

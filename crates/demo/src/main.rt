@@ -1,7 +1,6 @@
 // What a client of a group sees: answers under seals on the bus, and a collector that closes on two equal ones.
 #![tactic(auto)]
 
-
 mod bus;
 mod collecting;
 mod reading;

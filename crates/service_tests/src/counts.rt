@@ -2,8 +2,8 @@
 use ballot::{MarkBallot, ResultBallot, count};
 use packet::Slot;
 
-fn res(held: bool, res: u64) -> ResultBallot {
-    ResultBallot { held, result: res }
+fn result(held: bool, outcome: u64) -> ResultBallot {
+    ResultBallot { held, result: outcome }
 }
 
 fn mark(held: bool, slot: u32, mark: u64) -> MarkBallot {
