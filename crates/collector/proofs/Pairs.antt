@@ -1,12 +1,10 @@
 -- A count of two is a pair, and so the first place that agrees is the lowest replica of a pair.
-use Rattle.std.proofs.Common.{◌≡◌, ℕ, zero, suc, ◌+◌, ◌<◌, ◌≤◌, Bool, true, false, cond, ◌&&◌, eqb, leb, ◌≢◌, ◌⊎◌, List, [], ◌∷◌, length, get_or, Some, None, Ok, Err, count_by, Option, Result, sym, refl, ap, ◌∙◌, subst, inl, inr, arith}
+use Rattle.std.proofs.Common.{◌≡◌, ℕ, zero, suc, ◌+◌, ◌<◌, ◌≤◌, Bool, true, false, cond, eqb, leb, ◌≢◌, ◌⊎◌, List, [], ◌∷◌, get_or, Some, None, count_by, Option, refl, ap, ◌∙◌, inl, inr, arith}
 use Rattle.std.proofs.lemmas.List.Sums.{sum_by-cons}
-use Rattle.std.proofs.lemmas.Bool.{and_parts, and_from, eqb-true, eq-eqb, leb-true, le-leb}
+use Rattle.std.proofs.lemmas.Bool.{and_parts, eqb-true, eq-eqb, leb-true, le-leb}
 use Rattle.std.proofs.lemmas.Bool.Decides.{nat_tests}
 use Rattle.ballot.specs.Counting.{counts_for, count_of}
 use Rattle.ballot.specs.declared.results.ResultBallot.{ResultBallot}
-use Rattle.collector.specs.declared.collectors.Closed.{Closed}
-use Rattle.collector.specs.declared.collectors.Unclosed.{Unclosed}
 use Rattle.collector.specs.declared.collectors.Waiting.{Waiting}
 use Rattle.collector.specs.Collectors.{empty, holding, held, same, agrees, agreed_result, closed_as}
 use Rattle.collector.specs.Laws.{Pair, LowestPair, Closes, ClosesExactly}

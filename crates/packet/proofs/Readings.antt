@@ -1,8 +1,8 @@
 -- A packet is its statements, and the first rule that bytes break gives the refusal.
-use Rattle.std.proofs.Common.{◌≡◌, ℕ, zero, suc, ◌+◌, ◌*◌, ◌/◌, ◌<◌, ◌≤◌, Bool, true, false, cond, eqb, List, [], ◌∷◌, ◌++◌, map, length, get_or, take, drop, is_some, Some, None, Ok, Err, Option, Result, sym, refl, ap, ◌∙◌, subst, arith}
+use Rattle.std.proofs.Common.{◌≡◌, ℕ, zero, suc, ◌*◌, ◌/◌, ◌<◌, ◌≤◌, Bool, true, false, cond, eqb, List, [], ◌∷◌, ◌++◌, map, length, get_or, take, drop, is_some, Some, None, Ok, Err, Option, Result, sym, refl, ap, ◌∙◌, subst, arith}
 use Rattle.std.proofs.ByRecursion.{All-take, All-drop, All-from_get_or}
 use Rattle.std.proofs.lemmas.List.{length-append, length-drop, take_at, drop_at, take-append-drop, nil_from_length, length-map}
-use Rattle.std.proofs.lemmas.Bool.{cond-true, cond-false, eqb-true, eqb-false, ne_eqb}
+use Rattle.std.proofs.lemmas.Bool.{eqb-true, eqb-false, ne_eqb}
 use Rattle.std.proofs.lemmas.Bool.Decides.{nat_tests}
 use Rattle.std.specs.Option.{ok_or}
 use Rattle.std.specs.Simd.{first_chunks}
@@ -19,7 +19,7 @@ use Rattle.packet.specs.Kinds.{byte_of, kind_of}
 use Rattle.packet.specs.Laws.{Sound, Written, OnePacket, Begins, Reading, Refused}
 use Rattle.packet.specs.Laws.Refused.{unexpected, misfit, malformed, accepted}
 use Rattle.packet.specs.Packets.{takes, has_length, parts_of, taken, first_kind, check_statements, is_statement, read_parts, read_packet, seen}
-use Rattle.packet.specs.Parts.{check_from, Passes}
+use Rattle.packet.specs.Parts.{Passes}
 use Rattle.refusal.specs.Refusals.{and_then, of_packet, told}
 use Rattle.packet.specs.Statements.{body, encode, decode, read_at}
 use Rattle.packet.proofs.Checks.{Checked, checked, check_passes, passes_checked}

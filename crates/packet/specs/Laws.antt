@@ -1,5 +1,5 @@
 -- What the format keeps, in its own words.
-use Rattle.std.specs.Prelude.{◌≡◌, ℕ, ◌^◌, ◌<◌, ◌≤◌, true, false, ◌⊎◌, List, ◌∷◌, map, length, IfOk, Some, None, Ok, Err, Option, Result, slice_index}
+use Rattle.std.specs.Prelude.{◌≡◌, ℕ, ◌^◌, ◌<◌, ◌≤◌, true, false, List, ◌∷◌, map, length, IfOk, Some, None, Ok, Option, Result, slice_index}
 use Rattle.std.specs.List.{flat_map, AllByRecursion as All}
 use Rattle.std.specs.Int.Digits.{AllBelowBase}
 use Rattle.packet.specs.declared.kinds.Kind.{Kind}

@@ -1,8 +1,7 @@
 -- How a call of bytes is read as a call of statements: what passes here passes there, and the other way round.
-use Rattle.std.proofs.Common.{◌≡◌, ℕ, suc, ◌+◌, ◌*◌, Bool, true, false, cond, eqb, ltb, ◌⊎◌, List, [], ◌∷◌, ◌++◌, map, length, Some, None, Ok, Err, Option, Result, sym, refl, ap, ◌∙◌, subst, inl, inr, arith}
-use Rattle.std.proofs.lemmas.List.{append-nil, length-map, nil_from_length}
-use Rattle.std.proofs.lemmas.Bool.{cases_Bool, ne_eqb, eqb-true}
-use Rattle.std.proofs.lemmas.Bool.Decides.{nat_tests}
+use Rattle.std.proofs.Common.{◌≡◌, ℕ, suc, ◌*◌, true, false, eqb, ◌⊎◌, List, [], ◌∷◌, map, length, Some, None, Ok, Err, Option, Result, sym, refl, ap, ◌∙◌, subst, inl, inr, arith}
+use Rattle.std.proofs.lemmas.List.{nil_from_length}
+use Rattle.std.proofs.lemmas.Bool.{eqb-true}
 use Rattle.std.specs.Int.Digits.{AllBelowBase}
 use Rattle.std.specs.List.{flat_map, AllByRecursion as All}
 use Rattle.packet.specs.Laws as packets
@@ -14,22 +13,16 @@ use Rattle.packet.specs.declared.kinds.Kind.{Kind}
 use Rattle.packet.specs.declared.kinds.Kind.TheVariants as kind
 use Rattle.packet.specs.declared.packets.Reader.TheVariants.{Replica}
 use Rattle.packet.specs.declared.statements.Statement.{Statement}
-use Rattle.packet.proofs.Encodings.{one_encoding, same_encoding}
-use Rattle.packet.proofs.Readings.{and_then_ok, cond_ok, length_joined, packet_back, packet_there}
+use Rattle.packet.proofs.Encodings.{same_encoding}
+use Rattle.packet.proofs.Readings.{and_then_ok, length_joined, packet_back, packet_there}
 use Rattle.packet.proofs.Runs.{one_proof}
-use Rattle.proof.specs.Checks.{check_packet, check_proof, check_rule, rule_of, check_decision}
-use Rattle.proof.specs.Reports.{check_backing, holds}
-use Rattle.refusal.specs.Refusals.{and_then, carried, proof_from_sealer, from_proof}
-use Rattle.refusal.specs.declared.proofs.ProofFault.{ProofFault}
-use Rattle.refusal.specs.declared.proofs.ProofFault.TheVariants.{Rule}
-use Rattle.refusal.specs.declared.replicas.ReplicaFault.{ReplicaFault}
+use Rattle.proof.specs.Checks.{check_packet, check_proof, check_rule}
+use Rattle.proof.specs.Reports.{check_backing}
+use Rattle.refusal.specs.Refusals.{and_then, carried, proof_from_sealer}
 use Rattle.sealer.specs.Laws.{Genuine}
-use Rattle.sealer.specs.Seals.{Meaning, open_packet}
+use Rattle.sealer.specs.Seals.{Meaning}
 use Rattle.sealer.proofs.Openings.{carried_ok, one_opening}
 use Rattle.sealer.proofs.Runs.{one_proof_opening}
-use Rattle.slots.specs.Checks.{verdict, take_tests, lead_tests, led_tests}
-use Rattle.slots.specs.declared.cores.Core.{Core}
-use Rattle.promise.specs.Statements.{Fitting}
 use Rattle.promise.specs.Steps.{Setting, Member, Call, judge_call, seal_in, Acts, Commits, Takes, TakesRead, behind, packet_of}
 use Rattle.promise.specs.Steps as steps
 use Rattle.promise.specs.Histories as histories

@@ -1,8 +1,7 @@
 -- Each accepted call is a deed on the pages.
-use Rattle.std.proofs.Common.{◌≡◌, ℕ, zero, suc, ◌+◌, ◌%◌, ◌<◌, ◌≤◌, Bool, true, false, cond, not, ◌&&◌, ◌||◌, eqb, ltb, leb, ◌≢◌, ◌⊎◌, List, [], ◌∷◌, map, length, get_or, set, Some, None, Option, sym, refl, ap, ◌∙◌, subst, inl, inr, arith, length-set, get_or-set_other, get_or-set_same, set-set}
+use Rattle.std.proofs.Common.{◌≡◌, ℕ, ◌+◌, ◌%◌, ◌<◌, ◌≤◌, Bool, true, false, cond, not, ◌&&◌, eqb, ltb, List, ◌∷◌, map, length, Some, None, Option, sym, refl, ap, ◌∙◌, subst, inl, inr, arith, length-set, get_or-set_other, get_or-set_same, set-set}
 use mathlib.Core.Path.{fun_ext}
-use Rattle.std.proofs.lemmas.Bool.{cases_eq, cases_Bool, and_parts, eqb-true, eqb-false, cond-true, cond-false, eq-eqb, ne_eqb, ltb-true, lt-ltb, le-ltb, leb-true, not-true, not_from_true, not_from_false, or_cases}
-use Rattle.std.specs.List.{AllByRecursion as All}
+use Rattle.std.proofs.lemmas.Bool.{cases_eq, cases_Bool, and_parts, eqb-true, eqb-false, cond-true, cond-false, eq-eqb, ne_eqb, ltb-true, lt-ltb, le-ltb, leb-true, not-true, not_from_false, or_cases}
 use Rattle.agreement.specs.Lists.{Among}
 use Rattle.packet.specs.Fields.{valid}
 use Rattle.packet.specs.Laws.{Sound}
@@ -12,10 +11,10 @@ use Rattle.proof.specs.Roles.{primary, active, backups, every}
 use Rattle.proof.proofs.Certified.{kept_rule}
 use Rattle.ledger.specs.Sheets.{Point, at, Page, Sheet, Deed, write, mark, may, done}
 use Rattle.ledger.specs.Sheets as sheets
-use Rattle.ledger.proofs.Groups.{primary_active, active_known, backup_active}
-use Rattle.slots.specs.Checks.{is_active, like_order, take_order, take_prepare, take_commit, take_certificate, take_wish, take_mark, lead_tests, led_tests, report_tests, show_tests, run_tests}
-use Rattle.slots.specs.Cores.{in_window, is_open, record_at, put, led, ordered, prepare_counted, is_prepared, slot_confirmed, commit_counted, certified, entered, with_wish, wished, with_mark, is_agreed, collected, mark_kept, with_count}
-use Rattle.slots.specs.Records.{blank, has, is_there, certificate, order_of, with_vote, with_order, with_prepare, with_commit, with_prepared, with_decision, all_prepared, prepared_in, all_committed, settled, confirmed, seal_of}
+use Rattle.ledger.proofs.Groups.{primary_active}
+use Rattle.slots.specs.Checks.{is_active, like_order, take_order, take_prepare, take_commit, take_certificate, take_mark, lead_tests, led_tests, report_tests, run_tests}
+use Rattle.slots.specs.Cores.{is_open, record_at, put, led, ordered, prepare_counted, is_prepared, commit_counted, certified, entered, with_wish, wished, with_mark, is_agreed, collected, mark_kept, with_count}
+use Rattle.slots.specs.Records.{blank, has, is_there, certificate, order_of, with_vote, with_order, with_prepare, with_commit, with_decision, all_prepared, prepared_in, all_committed, settled, confirmed, seal_of}
 use Rattle.slots.specs.declared.cores.Core.{Core}
 use Rattle.slots.specs.declared.records.Certificate.{Certificate}
 use Rattle.slots.specs.declared.records.Record.{Record}
@@ -23,8 +22,8 @@ use Rattle.slots.specs.declared.records.Votes.{Votes}
 use Rattle.promise.specs.Statements.{told_command}
 use Rattle.promise.specs.Steps.{Setting, Member, Confirms, Enters, Marks}
 use Rattle.promise.proofs.Turns.{Reading, lead, an_order, a_prepare, a_commit, a_certificate, a_wish, a_mark, leave, report_on, show, run, Passed, Readable, Admitted, Does, Answers}
-use Rattle.promise.proofs.Verdicts.{holding, active_if, backup_test}
-use Rattle.promise.proofs.Rings.{point_of, page_of, page_at, sheet_of, Sized, window, in_ring, page_is, page_inside, put_sheet, put_sized, entered_sheet, entered_sized, collected_sheet, collected_sized}
+use Rattle.promise.proofs.Verdicts.{holding, active_if}
+use Rattle.promise.proofs.Rings.{point_of, page_of, page_at, sheet_of, Sized, in_ring, page_is, put_sheet, put_sized, entered_sheet, entered_sized, collected_sheet, collected_sized}
 
 -- slots were collected, or a view was entered, or neither
 abbrev pub shift : Core → Core → Deed

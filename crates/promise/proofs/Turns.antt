@@ -1,6 +1,6 @@
 -- The same histories over statements in place of bytes. A call that cannot be read as statements is refused and changes
 -- nothing, and it is left out here.
-use Rattle.std.proofs.Common.{◌≡◌, ℕ, ◌+◌, Bool, true, false, cond, eqb, ◌⊎◌, List, [], ◌∷◌, ◌++◌, map, Some, None, Ok, Option}
+use Rattle.std.proofs.Common.{◌≡◌, ℕ, ◌+◌, true, false, cond, eqb, ◌⊎◌, List, [], ◌∷◌, ◌++◌, map, Some, None, Ok, Option}
 use Rattle.std.specs.List.{flat_map, AllByRecursion as All}
 use Rattle.agreement.specs.Lists.{Among}
 use Rattle.packet.specs.Laws as packets
@@ -19,7 +19,7 @@ use Rattle.slots.specs.Cores as cores
 use Rattle.slots.specs.Records.{certificate}
 use Rattle.slots.specs.declared.cores.Core.{Core}
 use Rattle.promise.specs.Statements.{order, prepare, commit, decided_statements}
-use Rattle.promise.specs.Steps.{Setting, Member, Confirms, Enters, Leads, Reports, Runs, Takes}
+use Rattle.promise.specs.Steps.{Setting, Member, Enters, Leads, Reports, Runs, Takes}
 use Rattle.promise.specs.Histories.{Correct, made}
 
 -- a call as it is read

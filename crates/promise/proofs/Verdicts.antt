@@ -1,10 +1,10 @@
 -- What tests tell that were all passed, and who passes the tests of a part.
-use Rattle.std.proofs.Common.{◌≡◌, ℕ, ◌<◌, Bool, true, false, cond, not, ◌&&◌, ◌||◌, eqb, ◌⊎◌, List, [], ◌∷◌, Ok, Err, Result, sym, refl, ap, ◌∙◌, subst, inl, inr, arith}
-use Rattle.std.proofs.lemmas.Bool.{cases_eq, cases_Bool, and_parts, and_from, cond-true, eqb-false, ne_eqb, not-true, not_from_false, or_cases}
+use Rattle.std.proofs.Common.{◌≡◌, ℕ, ◌<◌, Bool, true, false, cond, not, eqb, List, [], ◌∷◌, Ok, Err, sym, refl, ◌∙◌, subst, inl, inr, arith}
+use Rattle.std.proofs.lemmas.Bool.{cases_eq, and_parts, and_from, cond-true, eqb-false, ne_eqb, not-true, not_from_false}
 use Rattle.agreement.specs.Lists.{Among}
 use Rattle.agreement.specs.Lists.Among.{here, there}
 use Rattle.proof.specs.Roles.{primary, spare, active, backups}
-use Rattle.proof.proofs.Actives.{OneOf, first, second, third, three, parts_differ}
+use Rattle.proof.proofs.Actives.{OneOf, three, parts_differ}
 use Rattle.ledger.proofs.Groups.{backup_if, backup_active, not_primary}
 use Rattle.slots.specs.Checks.{Test, verdict, is_active, is_backup}
 use Rattle.promise.proofs.Turns.{Passed}

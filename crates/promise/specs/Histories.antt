@@ -1,5 +1,5 @@
 -- Histories of a group: calls of correct replicas in any interleaving, the newest first.
-use Rattle.std.specs.Prelude.{◌≡◌, ℕ, ◌+◌, ◌<◌, Bool, true, false, cond, ◌⊎◌, List, [], ◌∷◌, Ok, Err, Result, ◌==◌, slice_index, slice_index_or}
+use Rattle.std.specs.Prelude.{◌≡◌, ℕ, ◌+◌, ◌<◌, true, cond, ◌⊎◌, List, [], ◌∷◌, Ok, Err, Result, ◌==◌, slice_index, slice_index_or}
 use Rattle.std.proofs.Math.ListN as lists
 use Rattle.std.specs.Int.Digits.{AllBelowBase}
 use Rattle.agreement.specs.Lists.{Among}

@@ -1,5 +1,5 @@
 -- The statements that a replica signs, and those of its certificates.
-use Rattle.std.specs.Prelude.{ℕ, ◌^◌, ◌<◌, Bool, true, false, cond, List, [], ◌∷◌, drop, slice_index}
+use Rattle.std.specs.Prelude.{ℕ, ◌^◌, ◌<◌, cond, List, [], ◌∷◌, drop, slice_index}
 use Rattle.packet.specs.Fields.{Fits}
 use Rattle.packet.specs.Statements.{statement}
 use Rattle.packet.specs.declared.kinds.Kind.{Kind}

@@ -1,5 +1,5 @@
 -- What the law of agreement takes from the rules.
-use Rattle.std.proofs.Common.{◌≡◌, ℕ, ◌<◌, T, List, [], ◌∷◌, ◌++◌, map, sym, refl, ap, ◌∙◌, subst, inl, inr}
+use Rattle.std.proofs.Common.{◌≡◌, ℕ, ◌<◌, T, List, [], ◌∷◌, ◌++◌, map, sym, ap, subst, inl, inr}
 use Rattle.agreement.specs.Groups.{Correct, Quorum}
 use Rattle.agreement.specs.Lists.{Among}
 use Rattle.agreement.specs.Lists.Among.{here, there}
@@ -7,10 +7,8 @@ use Rattle.agreement.specs.Reports as agreement
 use Rattle.agreement.specs.Traces.{Trace, execution}
 use Rattle.agreement.specs.Votes.{Certificate, Settled}
 use Rattle.agreement.proofs.Lists.{among_map}
-use Rattle.packet.specs.declared.kinds.Kind.TheVariants.{Order, Prepare, Commit, Report}
 use Rattle.packet.specs.declared.statements.Statement.{Statement}
-use Rattle.proof.specs.Laws.{Decided, FeedsAgreement, Group, Justified, Prepared, Recorded, Says, Unforged, report_of, reports_of, spread}
-use Rattle.proof.specs.Roles.{active}
+use Rattle.proof.specs.Laws.{Decided, FeedsAgreement, Group, Justified, Prepared, Recorded, Unforged, report_of, reports_of, spread}
 
 among_left : {s : Statement} (xs ys : List Statement) → Among s xs → Among s (xs ++ ys)
 among_left [] ys a = elim a [ ]

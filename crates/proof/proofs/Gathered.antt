@@ -1,7 +1,7 @@
 -- What the reports behind an order say.
-use Rattle.std.proofs.Common.{◌≡◌, ℕ, zero, suc, ◌+◌, ◌<◌, ◌≤◌, max, Bool, true, false, cond, ◌&&◌, ◌||◌, eqb, ltb, leb, List, [], ◌∷◌, ◌++◌, map, length, drop, Some, None, Ok, Err, Option, Result, sym, refl, ap, ◌∙◌, subst, inl, inr, arith}
+use Rattle.std.proofs.Common.{◌≡◌, ℕ, zero, suc, ◌+◌, ◌<◌, ◌≤◌, Bool, true, false, ◌&&◌, eqb, ltb, leb, List, [], ◌∷◌, ◌++◌, map, length, drop, Some, None, Ok, Option, sym, refl, ap, ◌∙◌, subst, arith}
 use Rattle.std.proofs.lemmas.List.{drop_all, length-map}
-use Rattle.std.proofs.lemmas.Bool.{and_parts, eqb-true, eqb-false, leb-true, ltb-true, or_cases}
+use Rattle.std.proofs.lemmas.Bool.{and_parts, eqb-true, eqb-false, leb-true, ltb-true}
 use Rattle.std.proofs.lemmas.Bool.Decides.{nat_tests}
 use Rattle.std.specs.List.{AllByRecursion as All}
 use Rattle.agreement.specs.Groups.{Quorum}
@@ -20,9 +20,9 @@ use Rattle.packet.specs.declared.kinds.Kind.TheVariants.{Report}
 use Rattle.packet.specs.declared.statements.Statement.{Statement}
 use Rattle.refusal.specs.declared.proofs.ProofFault.TheVariants.{Rule}
 use Rattle.proof.specs.Certificates.{prepared}
-use Rattle.proof.specs.Laws.{Group, Justified, Prepared, Reporting, report_of, reports_of, spread}
-use Rattle.proof.specs.Reports.{all_allow, allows, behind, certified, check_reports, grouped, highest, justify, report_at, reports_from, reports_on, rises, rising}
-use Rattle.proof.proofs.Certified.{Certified, is_prepared, kept_rule}
+use Rattle.proof.specs.Laws.{Group, Justified, Reporting, report_of, reports_of, spread}
+use Rattle.proof.specs.Reports.{all_allow, allows, behind, certified, check_reports, grouped, highest, justify, report_at, reports_from, reports_on, rising}
+use Rattle.proof.proofs.Certified.{is_prepared, kept_rule}
 use Rattle.proof.proofs.Places.{found, same_kind, same_statement}
 
 -- a report names a view below its own

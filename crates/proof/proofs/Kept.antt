@@ -1,14 +1,12 @@
 -- What passes keeps the rules.
-use Rattle.std.proofs.Common.{◌≡◌, ℕ, suc, ◌*◌, Bool, true, false, cond, ◌||◌, eqb, List, [], ◌∷◌, map, length, drop, Ok, Err, sym, refl, ap, ◌∙◌, subst, inl, inr, arith}
+use Rattle.std.proofs.Common.{◌≡◌, ℕ, suc, ◌*◌, Bool, true, false, cond, ◌||◌, eqb, List, ◌∷◌, map, length, drop, Ok, sym, refl, ap, ◌∙◌, subst, inl, inr, arith}
 use Rattle.std.proofs.lemmas.List.{drop_all, length-map, nil_from_length}
-use Rattle.std.proofs.lemmas.Bool.{eqb-true, eqb-false, or_cases}
+use Rattle.std.proofs.lemmas.Bool.{eqb-true, eqb-false}
 use Rattle.std.proofs.lemmas.Bool.Decides.{nat_tests}
-use Rattle.std.specs.Int.Digits.{AllBelowBase}
 use Rattle.std.specs.List.{AllByRecursion as All}
 use Rattle.packet.proofs.Readings.{and_then_ok, cond_ok, length_joined}
 use Rattle.packet.specs.Laws.{Sound, Written}
 use Rattle.packet.specs.Packets.{has_length}
-use Rattle.packet.specs.Proofs.{ProofWritten}
 use Rattle.packet.specs.Statements.{encode}
 use Rattle.packet.specs.declared.kinds.Kind.{Kind}
 use Rattle.packet.specs.declared.kinds.Kind.TheVariants.{Order, Prepare, Commit, Report, Wish, Checkpoint, Answer}
@@ -18,8 +16,7 @@ use Rattle.refusal.specs.Refusals.{proof_from_sealer}
 use Rattle.refusal.specs.declared.proofs.ProofFault.TheVariants.{Rule}
 use Rattle.sealer.proofs.Openings.{carried_ok, one_opening}
 use Rattle.sealer.proofs.Runs.{one_proof_opening}
-use Rattle.sealer.specs.Proofs.{open_proof}
-use Rattle.sealer.specs.Seals.{Meaning, open_packet}
+use Rattle.sealer.specs.Seals.{Meaning}
 use Rattle.proof.specs.Certificates.{decided}
 use Rattle.proof.specs.Checks.{check_packet, check_proof, check_rule, rule_of}
 use Rattle.proof.specs.Laws.{Backed, Kept, PacketsKeep, ProofsKeep}

@@ -1,9 +1,7 @@
 -- The statement at a place of written statements.
-use Rattle.std.proofs.Common.{◌≡◌, ℕ, zero, suc, ◌+◌, Bool, true, List, [], ◌∷◌, map, drop, Some, None, Option, sym, refl, ap, ◌∙◌, add-one, arith}
-use Rattle.std.proofs.lemmas.Bool.{and_parts, eqb-true, leb-true}
+use Rattle.std.proofs.Common.{◌≡◌, ℕ, zero, suc, ◌+◌, List, [], ◌∷◌, map, drop, Some, ap, add-one, arith}
 use Rattle.std.specs.List.{AllByRecursion as All}
 use Rattle.packet.proofs.Encodings.{kind_back, reads_back}
-use Rattle.packet.specs.Fields.{rule}
 use Rattle.packet.specs.Kinds.{byte_of}
 use Rattle.packet.specs.Laws.{Sound}
 use Rattle.packet.specs.Packets.{statement_at}

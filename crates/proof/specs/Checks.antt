@@ -1,5 +1,5 @@
 -- What a replica is told of a packet, and a primary of a proof.
-use Rattle.std.specs.Prelude.{ℕ, ◌||◌, List, length, Ok, Err, Result, ◌==◌}
+use Rattle.std.specs.Prelude.{ℕ, ◌||◌, List, length, Ok, Result, ◌==◌}
 use Rattle.packet.specs.declared.kinds.Kind.{Kind}
 use Rattle.packet.specs.declared.kinds.Kind.TheVariants.{Order, Prepare, Commit, Report, Wish, Checkpoint, Answer}
 use Rattle.packet.specs.declared.packets.Reader.TheVariants.{Replica}

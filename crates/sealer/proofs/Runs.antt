@@ -1,5 +1,5 @@
 -- A proof is opened exactly if it is written of statements under genuine seals.
-use Rattle.std.proofs.Common.{◌≡◌, ℕ, List, map, Ok, sym, ap, ◌∙◌, subst}
+use Rattle.std.proofs.Common.{◌≡◌, ℕ, List, map, Ok, ap, ◌∙◌, subst}
 use Rattle.std.specs.Int.Digits.{AllBelowBase}
 use Rattle.std.specs.List.{AllByRecursion as All}
 use Rattle.packet.proofs.Checks.{check_passes, passes_checked}

@@ -1,5 +1,5 @@
 -- What it means that a packet was opened, in the words of the seals.
-use Rattle.std.specs.Prelude.{◌≡◌, ℕ, true, List, ◌∷◌, map, IfOk, Some, None, Ok, Err, Option, Result}
+use Rattle.std.specs.Prelude.{◌≡◌, ℕ, true, List, ◌∷◌, map, IfOk, Some, None, Ok, Option, Result}
 use Rattle.std.specs.Int.Digits.{AllBelowBase}
 use Rattle.std.specs.List.{AllByRecursion as All}
 use Rattle.packet.specs.declared.packets.Packet.{Packet}

@@ -1,5 +1,5 @@
 -- What the two sealers mean. There is no signer above 3, so nothing is genuine under one.
-use Rattle.std.specs.Prelude.{ℕ, ◌+◌, ◌*◌, ◌%◌, ◌^◌, Bool, ◌&&◌, List, [], fold, ◌==◌, nat_le, slice_index_or}
+use Rattle.std.specs.Prelude.{ℕ, ◌+◌, ◌*◌, ◌%◌, ◌^◌, ◌&&◌, List, [], fold, ◌==◌, nat_le, slice_index_or}
 use Rattle.sealer.specs.Seals.{Meaning}
 use Rattle.sealer.specs.Siphash.{siphash}
 

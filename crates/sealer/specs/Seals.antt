@@ -1,8 +1,7 @@
 -- What a seal means, and what a packet under genuine seals is.
-use Rattle.std.specs.Prelude.{◌≡◌, ℕ, Bool, true, List, Ok, Err, Result}
+use Rattle.std.specs.Prelude.{◌≡◌, ℕ, Bool, true, List, Ok, Result}
 use Rattle.packet.specs.declared.packets.Reader.{Reader}
 use Rattle.packet.specs.declared.statements.Statement.{Statement}
-use Rattle.refusal.specs.declared.packets.PacketFault.{PacketFault}
 use Rattle.packet.specs.Packets as packets
 use Rattle.packet.specs.Parts.{check_from}
 use Rattle.refusal.specs.Refusals.{and_then, carried, from_packet}

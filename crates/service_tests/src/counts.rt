@@ -3,7 +3,10 @@ use ballot::{MarkBallot, ResultBallot, count};
 use packet::Slot;
 
 fn result(held: bool, outcome: u64) -> ResultBallot {
-    ResultBallot { held, result: outcome }
+    ResultBallot {
+        held,
+        result: outcome,
+    }
 }
 
 fn mark(held: bool, slot: u32, mark: u64) -> MarkBallot {

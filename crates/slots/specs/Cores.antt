@@ -6,7 +6,6 @@ use Rattle.slots.specs.Records.{blank, with_order, with_prepare, with_commit, wi
 use Rattle.slots.specs.declared.cores.Core.{Core}
 use Rattle.slots.specs.declared.records.Certificate.{Certificate}
 use Rattle.slots.specs.declared.records.Record.{Record}
-use Rattle.slots.specs.declared.tables.Table.{Table}
 
 abbrev pub no_mark : MarkBallot
 no_mark = record { held = false; slot = record { 0 = 0 }; mark = 0 }
