@@ -1,6 +1,6 @@
 -- Lines hold if the computed test of them all does: a longer table needs no longer proof.
 use Rattle.std.proofs.Common.{◌≡◌, Bool, true, ◌&&◌, eqb, List, [], ◌∷◌}
-use Rattle.std.specs.List.{AllByRecursion as All}
+use Rattle.std.specs.List.{AllByRecursion}
 use Rattle.std.proofs.lemmas.Bool.{and_parts, eqb-true}
 use Rattle.cases.specs.Lines.{Line, Holds}
 
@@ -8,7 +8,7 @@ abbrev pub right : List Line → Bool
 right [] = true
 right (l ∷ ls) = eqb l.given l.expected && right ls
 
-pub all_hold : (ls : List Line) → right ls ≡ true → All Holds ls
+pub all_hold : (ls : List Line) → right ls ≡ true → AllByRecursion Holds ls
 all_hold [] e = tt
 all_hold (l ∷ ls) e =
     let parts = and_parts (eqb l.given l.expected) (right ls) e in

@@ -7,7 +7,7 @@ use Rattle.std.proofs.lemmas.Bool.Decides.{nat_tests}
 use Rattle.std.specs.Option.{ok_or}
 use Rattle.std.specs.Simd.{first_chunks}
 use Rattle.std.specs.Int.Digits.{AllBelowBase}
-use Rattle.std.specs.List.{flat_map, AllByRecursion as All}
+use Rattle.std.specs.List.{flat_map, AllByRecursion}
 use Rattle.packet.specs.declared.kinds.Kind.{Kind}
 use Rattle.packet.specs.declared.kinds.Kind.TheVariants.{Order, Prepare, Commit, Report, Wish, Checkpoint, Answer}
 use Rattle.packet.specs.declared.packets.Packet.{Packet}
@@ -82,11 +82,11 @@ parts_joined ss =
 reads_at : (i : ℕ) (s : Statement) → Sound s → read_at i (encode s) ≡ Ok s
 reads_at i s g = ap (λ o. ok_or o (fault.Statement i)) (reads_back s g)
 
-pub all_statements : (ss : List Statement) → All Sound ss → Passes is_statement (map encode ss)
+pub all_statements : (ss : List Statement) → AllByRecursion Sound ss → Passes is_statement (map encode ss)
 all_statements [] g = tt
 all_statements (s ∷ ss) g = (ap is_some (reads_back s g.0), all_statements ss g.1)
 
-read_written : (s : Statement) (ss : List Statement) → All Sound (s ∷ ss) → read_parts (map encode (s ∷ ss)) ≡ Ok (s, map encode (s ∷ ss))
+read_written : (s : Statement) (ss : List Statement) → AllByRecursion Sound (s ∷ ss) → read_parts (map encode (s ∷ ss)) ≡ Ok (s, map encode (s ∷ ss))
 read_written s ss g =
     ap (λ r. and_then r (λ t. and_then (check_statements 1 (map encode ss)) (λ _. Ok (t, map encode (s ∷ ss))))) (reads_at 0 s g.0)
     ∙ ap (λ r. and_then r (λ _. Ok (s, map encode (s ∷ ss)))) (check_passes is_statement fault.Statement 1 (map encode ss) (all_statements ss g.1))
@@ -106,11 +106,11 @@ packet_back r bs s ss w =
 -- bytes whose parts are statements, joined again
 pub record Cut (n : ℕ) (bs : List ℕ) : Type 0 where
   pub statements : List Statement
-  pub sound : All Sound statements
+  pub sound : AllByRecursion Sound statements
   pub whole : flat_map encode statements ≡ bs
   pub parts : first_chunks 30 n bs ≡ map encode statements
 
-cut_more : (n : ℕ) (bs : List ℕ) (s : Statement) → AllBelowBase 256 bs → decode (take 30 bs) ≡ Some s → (c : Cut n (drop 30 bs)) → All Sound (s ∷ c.statements) × (flat_map encode (s ∷ c.statements) ≡ bs) × (first_chunks 30 (suc n) bs ≡ map encode (s ∷ c.statements))
+cut_more : (n : ℕ) (bs : List ℕ) (s : Statement) → AllBelowBase 256 bs → decode (take 30 bs) ≡ Some s → (c : Cut n (drop 30 bs)) → AllByRecursion Sound (s ∷ c.statements) × (flat_map encode (s ∷ c.statements) ≡ bs) × (first_chunks 30 (suc n) bs ≡ map encode (s ∷ c.statements))
 cut_more n bs s u e c =
     let w = writes_back (take 30 bs) s (All-take _ 30 bs u) e in
     let t = take-append-drop 30 bs in
@@ -132,7 +132,7 @@ cut_checked (suc n) bs u l p =
     let g = cut_more n bs s.0 u s.1 c in
     record { statements = s.0 ∷ c.statements; sound = g.0; whole = g.1; parts = g.2 }
 
-read_parts_ok : (n : ℕ) (bs : List ℕ) (s : Statement) (ps : List (List ℕ)) → AllBelowBase 256 bs → 30 * n ≡ length bs → read_parts (first_chunks 30 n bs) ≡ Ok (s, ps) → (ss : List Statement) × All Sound (s ∷ ss) × (flat_map encode (s ∷ ss) ≡ bs) × (ps ≡ map encode (s ∷ ss))
+read_parts_ok : (n : ℕ) (bs : List ℕ) (s : Statement) (ps : List (List ℕ)) → AllBelowBase 256 bs → 30 * n ≡ length bs → read_parts (first_chunks 30 n bs) ≡ Ok (s, ps) → (ss : List Statement) × AllByRecursion Sound (s ∷ ss) × (flat_map encode (s ∷ ss) ≡ bs) × (ps ≡ map encode (s ∷ ss))
 read_parts_ok zero bs s ps u l e = let z : ◌≡◌ {A = ℕ} 0 1 = cc in absurd (omega arith)
 read_parts_ok (suc n) bs s ps u l e =
     let a = and_then_ok (read_at 0 (take 30 bs)) _ (s, ps) e in

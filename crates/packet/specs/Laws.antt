@@ -1,6 +1,6 @@
 -- What the format keeps, in its own words.
 use Rattle.std.specs.Prelude.{◌≡◌, ℕ, ◌^◌, ◌<◌, ◌≤◌, true, false, List, ◌∷◌, map, length, IfOk, Some, None, Ok, Option, Result, slice_index}
-use Rattle.std.specs.List.{flat_map, AllByRecursion as All}
+use Rattle.std.specs.List.{flat_map, AllByRecursion}
 use Rattle.std.specs.Int.Digits.{AllBelowBase}
 use Rattle.packet.specs.declared.kinds.Kind.{Kind}
 use Rattle.packet.specs.declared.packets.Packet.{Packet}
@@ -33,7 +33,7 @@ pub record OneEncoding : Type 0 where
 pub record Written (r : Reader) (bs : List ℕ) (s : Statement) (ss : List Statement) : Type 0 where
   pub taken : takes r s.kind ≡ true
   pub long : has_length s.kind (length bs) ≡ true
-  pub sound : All Sound (s ∷ ss)
+  pub sound : AllByRecursion Sound (s ∷ ss)
   pub whole : flat_map encode (s ∷ ss) ≡ bs
 
 -- a packet is accepted exactly if it is so written

@@ -1,6 +1,6 @@
 -- Parts that are checked in their order.
 use Rattle.std.specs.Prelude.{◌≡◌, ℕ, ◌+◌, Bool, true, false, cond, List, [], ◌∷◌, take, drop, Ok, Err, Result}
-use Rattle.std.specs.List.{AllByRecursion as All}
+use Rattle.std.specs.List.{AllByRecursion}
 
 -- the first part, counted from i, that fails a test is refused with its place
 abbrev pub check_from : {X E : Type 0} → (X → Bool) → (ℕ → E) → ℕ → List X → Result (Unit {0}) E
@@ -9,7 +9,7 @@ check_from test fault i (p ∷ ps) = cond (test p) (check_from test fault (i + 1
 
 -- every part passes
 abbrev pub Passes : {X : Type 0} → (X → Bool) → List X → Type 0
-Passes test ps = All (λ p. test p ≡ true) ps
+Passes test ps = AllByRecursion (λ p. test p ≡ true) ps
 
 -- the part at i fails, and every part before it passes
 pub record FirstFailing {X : Type 0} (test : X → Bool) (i : ℕ) (ps : List X) : Type 0 where

@@ -1,7 +1,7 @@
 -- What a proof is on the wire: nothing, or three reports one behind the other, each alone or with three statements more.
 use Rattle.std.specs.Prelude.{◌≡◌, ℕ, Bool, true, cond, ◌||◌, List, map, length, Ok, Err, Result, ◌==◌}
 use Rattle.std.specs.Int.Digits.{AllBelowBase}
-use Rattle.std.specs.List.{flat_map, AllByRecursion as All}
+use Rattle.std.specs.List.{flat_map, AllByRecursion}
 use Rattle.refusal.specs.Refusals.{and_then}
 use Rattle.refusal.specs.declared.packets.PacketFault.{PacketFault}
 use Rattle.refusal.specs.declared.packets.PacketFault.TheVariants as fault
@@ -26,7 +26,7 @@ seen_proof (Err e) = Err e
 -- bytes that are these statements, written one after another
 pub record ProofWritten (bs : List ℕ) (ss : List Statement) : Type 0 where
   pub long : has_proof_length (length bs) ≡ true
-  pub sound : All Sound ss
+  pub sound : AllByRecursion Sound ss
   pub whole : flat_map encode ss ≡ bs
 
 -- a proof is read exactly if it is so written

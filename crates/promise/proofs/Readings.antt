@@ -3,7 +3,7 @@ use Rattle.std.proofs.Common.{◌≡◌, ℕ, suc, ◌*◌, true, false, eqb, �
 use Rattle.std.proofs.lemmas.List.{nil_from_length}
 use Rattle.std.proofs.lemmas.Bool.{eqb-true}
 use Rattle.std.specs.Int.Digits.{AllBelowBase}
-use Rattle.std.specs.List.{flat_map, AllByRecursion as All}
+use Rattle.std.specs.List.{flat_map, AllByRecursion}
 use Rattle.packet.specs.Laws as packets
 use Rattle.packet.specs.Laws.{Sound}
 use Rattle.packet.specs.Packets.{has_length, read_packet, takes}
@@ -118,7 +118,7 @@ handed_as (steps.show n) r x = ap (λ y. flat_map encode (turns.handed y)) (sym 
 handed_as steps.run r x = ap (λ y. flat_map encode (turns.handed y)) (sym x)
 
 -- statements are read in one way
-pub same_encodings : (xs ys : List Statement) → All Sound xs → All Sound ys → map encode xs ≡ map encode ys → xs ≡ ys
+pub same_encodings : (xs ys : List Statement) → AllByRecursion Sound xs → AllByRecursion Sound ys → map encode xs ≡ map encode ys → xs ≡ ys
 same_encodings [] [] a b e = refl
 same_encodings [] (y ∷ ys) a b e = let z : ◌≡◌ {A = ℕ} 0 1 = cc in absurd (omega arith)
 same_encodings (x ∷ xs) [] a b e = let z : ◌≡◌ {A = ℕ} 0 1 = cc in absurd (omega arith)
@@ -160,11 +160,11 @@ readability (steps.show n) u = inl (show n, refl)
 readability steps.run u = inl (run, refl)
 
 -- a proof, and a packet, that passes
-pub proof_passes : (m : Meaning) (v n c : ℕ) (bs : List ℕ) (ss : List Statement) → ProofWritten bs ss → All (Genuine m) ss → check_backing v n c (map encode ss) 0 ≡ Ok tt → check_proof m v n c bs ≡ Ok tt
+pub proof_passes : (m : Meaning) (v n c : ℕ) (bs : List ℕ) (ss : List Statement) → ProofWritten bs ss → AllByRecursion (Genuine m) ss → check_backing v n c (map encode ss) 0 ≡ Ok tt → check_proof m v n c bs ≡ Ok tt
 unfolding check_proof
 proof_passes m v n c bs ss w g h = ap (λ x. and_then (carried proof_from_sealer x) (λ ps. check_backing v n c ps 0)) ((one_proof_opening m).opens bs ss w g) ∙ h
 
-pub packet_passes : (m : Meaning) (bs : List ℕ) (s : Statement) (ss : List Statement) → Taken bs s ss → All (Genuine m) (s ∷ ss) → check_rule s (map encode (s ∷ ss)) ≡ Ok tt → check_packet m bs ≡ Ok (s, map encode (s ∷ ss))
+pub packet_passes : (m : Meaning) (bs : List ℕ) (s : Statement) (ss : List Statement) → Taken bs s ss → AllByRecursion (Genuine m) (s ∷ ss) → check_rule s (map encode (s ∷ ss)) ≡ Ok tt → check_packet m bs ≡ Ok (s, map encode (s ∷ ss))
 unfolding check_packet
 packet_passes m bs s ss w g h =
     ap (λ x. and_then (carried proof_from_sealer x) (λ p. and_then (check_rule p.0 p.1) (λ _. Ok p))) ((one_opening m).opens Replica bs s ss w g)
@@ -173,7 +173,7 @@ packet_passes m bs s ss w g h =
 record ProofPassed (m : Meaning) (v n c : ℕ) (bs : List ℕ) : Type 0 where
   statements : List Statement
   written : ProofWritten bs statements
-  genuine : All (Genuine m) statements
+  genuine : AllByRecursion (Genuine m) statements
   backed : check_backing v n c (map encode statements) 0 ≡ Ok tt
 
 proof_passed : (m : Meaning) (v n c : ℕ) (bs : List ℕ) → AllBelowBase 256 bs → check_proof m v n c bs ≡ Ok tt → ProofPassed m v n c bs
@@ -186,7 +186,7 @@ proof_passed m v n c bs u e =
 record PacketPassed (m : Meaning) (bs : List ℕ) (p : Statement × List (List ℕ)) : Type 0 where
   rest : List Statement
   written : Taken bs p.0 rest
-  genuine : All (Genuine m) (p.0 ∷ rest)
+  genuine : AllByRecursion (Genuine m) (p.0 ∷ rest)
   parts : p.1 ≡ map encode (p.0 ∷ rest)
   rule : check_rule p.0 (map encode (p.0 ∷ rest)) ≡ Ok tt
 

@@ -1,7 +1,7 @@
 -- The same histories over statements in place of bytes. A call that cannot be read as statements is refused and changes
 -- nothing, and it is left out here.
 use Rattle.std.proofs.Common.{◌≡◌, ℕ, ◌+◌, true, false, cond, eqb, ◌⊎◌, List, [], ◌∷◌, ◌++◌, map, Some, None, Ok, Option}
-use Rattle.std.specs.List.{flat_map, AllByRecursion as All}
+use Rattle.std.specs.List.{flat_map, AllByRecursion}
 use Rattle.agreement.specs.Lists.{Among}
 use Rattle.packet.specs.Laws as packets
 use Rattle.packet.specs.Proofs.{ProofWritten}
@@ -72,11 +72,11 @@ Passed ts = verdict ts ≡ Ok tt
 module _ (own : ℕ) (m : Meaning) where
   -- nothing refuses the call
   abbrev pub Admitted : Core → Reading → Type 0
-  Admitted core (lead n c ss) = Passed (lead_tests own core n) × All (Genuine m) ss × (check_backing core.view.0 n c (map encode ss) 0 ≡ Ok tt) × Passed (led_tests core n c)
-  Admitted core (an_order s ss) = All (Genuine m) (s ∷ ss) × (check_backing s.view.0 s.slot.0 s.command (map encode (s ∷ ss)) 1 ≡ Ok tt) × Passed (take_order own core s)
+  Admitted core (lead n c ss) = Passed (lead_tests own core n) × AllByRecursion (Genuine m) ss × (check_backing core.view.0 n c (map encode ss) 0 ≡ Ok tt) × Passed (led_tests core n c)
+  Admitted core (an_order s ss) = AllByRecursion (Genuine m) (s ∷ ss) × (check_backing s.view.0 s.slot.0 s.command (map encode (s ∷ ss)) 1 ≡ Ok tt) × Passed (take_order own core s)
   Admitted core (a_prepare s) = Genuine m s × Passed (take_prepare own core s)
   Admitted core (a_commit s) = Genuine m s × Passed (take_commit own core s)
-  Admitted core (a_certificate s ss) = All (Genuine m) (s ∷ ss) × (check_decision s.view.0 s.slot.0 s.command (map encode (s ∷ ss)) ≡ Ok tt) × Passed (take_certificate core s)
+  Admitted core (a_certificate s ss) = AllByRecursion (Genuine m) (s ∷ ss) × (check_decision s.view.0 s.slot.0 s.command (map encode (s ∷ ss)) ≡ Ok tt) × Passed (take_certificate core s)
   Admitted core (a_wish s) = Genuine m s × Passed (take_wish own core s)
   Admitted core (a_mark s) = Genuine m s × Passed (take_mark own core s)
   Admitted core leave = Passed (leave_tests core)

@@ -1,6 +1,6 @@
 -- The step of each call of a replica, from the bytes that are handed in to the bytes that are written.
 use Rattle.std.specs.Prelude.{◌≡◌, ℕ, ◌+◌, ◌%◌, Bool, true, false, cond, List, [], ◌∷◌, ◌++◌, map, length, drop, Ok, Err, Result, ◌==◌, nat_le, nat_lt}
-use Rattle.std.specs.List.{flat_map, AllByRecursion as All}
+use Rattle.std.specs.List.{flat_map, AllByRecursion}
 use Rattle.packet.specs.Packets.{sealed_part}
 use Rattle.packet.specs.Statements as packets
 use Rattle.packet.specs.declared.kinds.Kind.{Kind}
@@ -166,7 +166,7 @@ packet_of call out = flat_map packets.encode out ++ behind call
 pub record Accepts {State : Type 0} (own : ℕ) (k : Setting State) (m : Member State) (call : Call) (reply : List ℕ) (count : ℕ) (m' : Member State) (reply' : List ℕ) : Type 0 where
   pub passed : judge own k.genuine m.core call reply ≡ Ok tt
   pub out : List Statement
-  pub fitting : All Fitting out
+  pub fitting : AllByRecursion Fitting out
   pub acts : Acts own k m call out m'
   pub counted : count ≡ length (packet_of call out)
   pub space : reply' ≡ packet_of call out ++ drop count reply

@@ -2,7 +2,7 @@
 use Rattle.std.proofs.Common.{◌≡◌, ℕ, suc, ◌+◌, true, ◌&&◌, eqb, List, [], ◌∷◌, ◌++◌, map, length, drop, Some, None, Option, sym, refl, ap, ◌∙◌, subst, inl, inr, arith}
 use Rattle.std.proofs.lemmas.List.{append-nil, drop_all}
 use Rattle.std.proofs.lemmas.Bool.{and_parts, eqb-true}
-use Rattle.std.specs.List.{AllByRecursion as All}
+use Rattle.std.specs.List.{AllByRecursion}
 use Rattle.agreement.specs.Lists.{Among}
 use Rattle.agreement.specs.Lists.Among.{here, there}
 use Rattle.packet.specs.Fields.{proper, rule, valid}
@@ -39,7 +39,7 @@ plain_commit v n e c h = plain_vote v n e h
 pub kept_rule : (s : Statement) (k : Kind) → proper s ≡ true → s.kind ≡ k → rule k s.view.0 s.slot.0 s.earlier.0 s.command ≡ true
 kept_rule s k h e = subst (λ j. rule j s.view.0 s.slot.0 s.earlier.0 s.command ≡ true) e (and_parts _ _ h).1
 
-module _ (ss : List Statement) (sound : All Sound ss) where
+module _ (ss : List Statement) (sound : AllByRecursion Sound ss) where
   said : (k : Kind) → Plain k → (i v n c p : ℕ) (o : Option Statement) → statement_at (map encode ss) p ≡ o → says k i v n c o ≡ true → (s : Statement) × Says k i v n c s × Found ss p s
   unfolding says
   said k plain i v n c p None e h = let z : ◌≡◌ {A = ℕ} 0 1 = cc in absurd (omega arith)
@@ -81,7 +81,7 @@ all_voted v n c o ss x r i a = elim (parts_differ.either v i a) [
   | inr b ↦ let t = signed_one Prepare v n c i (backups v) ss r b in (t.0, there t.1, inr t.2)
 ]
 
-module _ (ss : List Statement) (sound : All Sound ss) where
+module _ (ss : List Statement) (sound : AllByRecursion Sound ss) where
   pub record Certified (v n c p : ℕ) : Type 0 where
     pub certificate : List Statement
     pub stands : Prepared v n c certificate

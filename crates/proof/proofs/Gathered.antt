@@ -3,7 +3,7 @@ use Rattle.std.proofs.Common.{◌≡◌, ℕ, zero, suc, ◌+◌, ◌<◌, ◌�
 use Rattle.std.proofs.lemmas.List.{drop_all, length-map}
 use Rattle.std.proofs.lemmas.Bool.{and_parts, eqb-true, eqb-false, leb-true, ltb-true}
 use Rattle.std.proofs.lemmas.Bool.Decides.{nat_tests}
-use Rattle.std.specs.List.{AllByRecursion as All}
+use Rattle.std.specs.List.{AllByRecursion}
 use Rattle.agreement.specs.Groups.{Quorum}
 use Rattle.agreement.specs.Lists.{Among}
 use Rattle.agreement.specs.Lists.Among.{here, there}
@@ -32,7 +32,7 @@ report_below v n e c rest h =
     let b = and_parts (valid n) (ltb e v && rest) a.1 in
     ltb-true e v (and_parts (ltb e v) rest b.1).0
 
-module _ (ss : List Statement) (sound : All Sound ss) (v n : ℕ) where
+module _ (ss : List Statement) (sound : AllByRecursion Sound ss) (v n : ℕ) where
   -- the group of report r stands at place i
   record Gathered (i : ℕ) (r : Statement) : Type 0 where
     certificate : List Statement
@@ -159,7 +159,7 @@ binds c gs e r x top p =
     let u = under_highest r gs x in
     named (highest_of gs) c r gs e x (highest_under r.earlier gs top) (omega arith)
 
-pub is_justified : (ss : List Statement) → All Sound ss → (v n c i : ℕ) (rest : List Statement) → drop i ss ≡ rest → check_reports v n c (map encode ss) i ≡ Ok tt → Justified v n c rest
+pub is_justified : (ss : List Statement) → AllByRecursion Sound ss → (v n c i : ℕ) (rest : List Statement) → drop i ss ≡ rest → check_reports v n c (map encode ss) i ≡ Ok tt → Justified v n c rest
 unfolding check_reports justify
 is_justified ss sound v n c i rest d e =
     let a = and_then_ok (reports_from 3 v n (map encode ss) i) _ tt e in

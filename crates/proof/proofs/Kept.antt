@@ -3,7 +3,7 @@ use Rattle.std.proofs.Common.{◌≡◌, ℕ, suc, ◌*◌, Bool, true, false, c
 use Rattle.std.proofs.lemmas.List.{drop_all, length-map, nil_from_length}
 use Rattle.std.proofs.lemmas.Bool.{eqb-true, eqb-false}
 use Rattle.std.proofs.lemmas.Bool.Decides.{nat_tests}
-use Rattle.std.specs.List.{AllByRecursion as All}
+use Rattle.std.specs.List.{AllByRecursion}
 use Rattle.packet.proofs.Readings.{and_then_ok, cond_ok, length_joined}
 use Rattle.packet.specs.Laws.{Sound, Written}
 use Rattle.packet.specs.Packets.{has_length}
@@ -24,7 +24,7 @@ use Rattle.proof.specs.Reports.{check_backing, check_reports, holds}
 use Rattle.proof.proofs.Certified.{is_decided}
 use Rattle.proof.proofs.Gathered.{is_justified}
 
-module _ (ss : List Statement) (sound : All Sound ss) (v n c i : ℕ) (rest : List Statement) (at : drop i ss ≡ rest) where
+module _ (ss : List Statement) (sound : AllByRecursion Sound ss) (v n c i : ℕ) (rest : List Statement) (at : drop i ss ≡ rest) where
   by_view : (b : Bool) → eqb v 1 ≡ b → cond b (holds (eqb (length (map encode ss)) i)) (check_reports v n c (map encode ss) i) ≡ Ok tt → Backed v n c rest
   by_view true e h =
       let l = eqb-true _ _ (cond_ok (eqb (length (map encode ss)) i) (Ok tt) Rule tt h).0 in

@@ -1,6 +1,6 @@
 -- The statement at a place of written statements.
 use Rattle.std.proofs.Common.{◌≡◌, ℕ, zero, suc, ◌+◌, List, [], ◌∷◌, map, drop, Some, ap, add-one, arith}
-use Rattle.std.specs.List.{AllByRecursion as All}
+use Rattle.std.specs.List.{AllByRecursion}
 use Rattle.packet.proofs.Encodings.{kind_back, reads_back}
 use Rattle.packet.specs.Kinds.{byte_of}
 use Rattle.packet.specs.Laws.{Sound}
@@ -18,7 +18,7 @@ nothing : (s : Statement) → decode [] ≡ Some s → ⊥
 unfolding decode
 nothing s e = let z : ◌≡◌ {A = ℕ} 0 1 = cc in omega arith
 
-found_suc : (ss : List Statement) (i : ℕ) (s : Statement) → All Sound ss → statement_at (map encode ss) i ≡ Some s → (drop i ss ≡ s ∷ drop (suc i) ss) × Sound s
+found_suc : (ss : List Statement) (i : ℕ) (s : Statement) → AllByRecursion Sound ss → statement_at (map encode ss) i ≡ Some s → (drop i ss ≡ s ∷ drop (suc i) ss) × Sound s
 found_suc [] i s g e = absurd (nothing s e)
 found_suc (x ∷ ss) zero s g e =
     let r = reads_back x g.0 in
@@ -26,7 +26,7 @@ found_suc (x ∷ ss) zero s g e =
     (ap (λ y. y ∷ ss) q, rw q at g.0)
 found_suc (x ∷ ss) (suc i) s g e = found_suc ss i s g.1 e
 
-pub found : (ss : List Statement) (i : ℕ) (s : Statement) → All Sound ss → statement_at (map encode ss) i ≡ Some s → Found ss i s
+pub found : (ss : List Statement) (i : ℕ) (s : Statement) → AllByRecursion Sound ss → statement_at (map encode ss) i ≡ Some s → Found ss i s
 found ss i s g e = let f = found_suc ss i s g e in record { here = rw add-one f.0; sound = f.1 }
 
 -- a kind is known by its byte

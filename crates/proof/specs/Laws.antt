@@ -1,7 +1,7 @@
 -- What the roles and the rules keep, in the words of the law of agreement.
 use Rattle.std.specs.Prelude.{◌≡◌, ℕ, ◌<◌, T, ◌⊎◌, List, [], ◌∷◌, ◌++◌, map, Ok}
 use Rattle.std.specs.Int.Digits.{AllBelowBase}
-use Rattle.std.specs.List.{AllByRecursion as All}
+use Rattle.std.specs.List.{AllByRecursion}
 use Rattle.agreement.specs.Groups.{Correct, Quorum}
 use Rattle.agreement.specs.Lists.{Among}
 use Rattle.agreement.specs.Reports as agreement
@@ -114,11 +114,11 @@ Kept Answer v n c s ss = Unit {0}
 
 -- a packet that passes is written of statements under genuine seals, and keeps the rule of its first kind
 abbrev pub PacketsKeep : Meaning → Type 0
-PacketsKeep m = (bs : List ℕ) (s : Statement) (ps : List (List ℕ)) → AllBelowBase 256 bs → check_packet m bs ≡ Ok (s, ps) → (ss : List Statement) × Written Replica bs s ss × All (Genuine m) (s ∷ ss) × (ps ≡ map encode (s ∷ ss)) × Kept s.kind s.view.0 s.slot.0 s.command s ss
+PacketsKeep m = (bs : List ℕ) (s : Statement) (ps : List (List ℕ)) → AllBelowBase 256 bs → check_packet m bs ≡ Ok (s, ps) → (ss : List Statement) × Written Replica bs s ss × AllByRecursion (Genuine m) (s ∷ ss) × (ps ≡ map encode (s ∷ ss)) × Kept s.kind s.view.0 s.slot.0 s.command s ss
 
 -- a proof that passes is written of statements under genuine seals on which an order of view v, slot n and command c can rest
 abbrev pub ProofsKeep : Meaning → Type 0
-ProofsKeep m = (v n c : ℕ) (bs : List ℕ) → AllBelowBase 256 bs → check_proof m v n c bs ≡ Ok tt → (ss : List Statement) × ProofWritten bs ss × All (Genuine m) ss × Backed v n c ss
+ProofsKeep m = (v n c : ℕ) (bs : List ℕ) → AllBelowBase 256 bs → check_proof m v n c bs ≡ Ok tt → (ss : List Statement) × ProofWritten bs ss × AllByRecursion (Genuine m) ss × Backed v n c ss
 
 -- an order in front of statements rests on them as a lead rests on them as its proof
 abbrev pub RestAlike : Type 0

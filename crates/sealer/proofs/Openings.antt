@@ -2,7 +2,7 @@
 use Rattle.std.proofs.Common.{◌≡◌, ℕ, ◌<◌, List, [], ◌∷◌, map, get_or, Ok, Err, Result, sym, refl, ap, ◌∙◌, subst, arith}
 use Rattle.std.proofs.ByRecursion.{All-from_get_or}
 use Rattle.std.specs.Int.Digits.{AllBelowBase}
-use Rattle.std.specs.List.{AllByRecursion as All}
+use Rattle.std.specs.List.{AllByRecursion}
 use Rattle.packet.proofs.Checks.{Checked, checked, check_passes, passes_checked}
 use Rattle.packet.proofs.Checks.Checked.{fine, bad}
 use Rattle.packet.proofs.Encodings.{one_encoding}
@@ -31,25 +31,25 @@ module _ (m : Meaning) where
   part_genuine : (s : Statement) → packets.Sound s → genuine_part m (encode s) ≡ m s.signer (body s) s.seal
   part_genuine s g = ap (λ t. m t.0 t.1 t.2) (one_encoding.sealed s g)
 
-  pub parts_pass : (ss : List Statement) → All packets.Sound ss → All (Genuine m) ss → Passes (genuine_part m) (map encode ss)
+  pub parts_pass : (ss : List Statement) → AllByRecursion packets.Sound ss → AllByRecursion (Genuine m) ss → Passes (genuine_part m) (map encode ss)
   parts_pass [] g a = tt
   parts_pass (s ∷ ss) g a = (part_genuine s g.0 ∙ a.0, parts_pass ss g.1 a.1)
 
-  all_genuine : (ss : List Statement) → All packets.Sound ss → Passes (genuine_part m) (map encode ss) → All (Genuine m) ss
+  all_genuine : (ss : List Statement) → AllByRecursion packets.Sound ss → Passes (genuine_part m) (map encode ss) → AllByRecursion (Genuine m) ss
   all_genuine [] g a = tt
   all_genuine (s ∷ ss) g a = (sym (part_genuine s g.0) ∙ a.0, all_genuine ss g.1 a.1)
 
-  pub genuine_there : (ps : List (List ℕ)) (ss : List Statement) → All packets.Sound ss → ps ≡ map encode ss → Passes (genuine_part m) ps → All (Genuine m) ss
+  pub genuine_there : (ps : List (List ℕ)) (ss : List Statement) → AllByRecursion packets.Sound ss → ps ≡ map encode ss → Passes (genuine_part m) ps → AllByRecursion (Genuine m) ss
   genuine_there ps ss g e a = all_genuine ss g (rw e at a)
 
-  opens : (r : Reader) (bs : List ℕ) (s : Statement) (ss : List Statement) → packets.Written r bs s ss → All (Genuine m) (s ∷ ss) → open_packet m r bs ≡ Ok (s, map encode (s ∷ ss))
+  opens : (r : Reader) (bs : List ℕ) (s : Statement) (ss : List Statement) → packets.Written r bs s ss → AllByRecursion (Genuine m) (s ∷ ss) → open_packet m r bs ≡ Ok (s, map encode (s ∷ ss))
   unfolding open_packet
   opens r bs s ss w a =
       let e = packet_back r bs s ss w in
       let c = check_passes (genuine_part m) Seal 0 (map encode (s ∷ ss)) (parts_pass (s ∷ ss) w.sound a) in
       ap (λ x. and_then (carried from_packet x) (λ p. and_then (check_seals m 0 p.1) (λ _. Ok p))) e ∙ ap (λ x. and_then x (λ _. Ok (s, map encode (s ∷ ss)))) c
 
-  was_opened : (r : Reader) (bs : List ℕ) (s : Statement) (ps : List (List ℕ)) → AllBelowBase 256 bs → open_packet m r bs ≡ Ok (s, ps) → (ss : List Statement) × packets.Written r bs s ss × All (Genuine m) (s ∷ ss) × (ps ≡ map encode (s ∷ ss))
+  was_opened : (r : Reader) (bs : List ℕ) (s : Statement) (ps : List (List ℕ)) → AllBelowBase 256 bs → open_packet m r bs ≡ Ok (s, ps) → (ss : List Statement) × packets.Written r bs s ss × AllByRecursion (Genuine m) (s ∷ ss) × (ps ≡ map encode (s ∷ ss))
   unfolding open_packet
   was_opened r bs s ps u e =
       let a = and_then_ok (carried from_packet (read_packet r bs)) _ (s, ps) e in

@@ -1,7 +1,7 @@
 -- What it means that a packet was opened, in the words of the seals.
 use Rattle.std.specs.Prelude.{◌≡◌, ℕ, true, List, ◌∷◌, map, IfOk, Some, None, Ok, Option, Result}
 use Rattle.std.specs.Int.Digits.{AllBelowBase}
-use Rattle.std.specs.List.{AllByRecursion as All}
+use Rattle.std.specs.List.{AllByRecursion}
 use Rattle.packet.specs.declared.packets.Packet.{Packet}
 use Rattle.packet.specs.declared.packets.Reader.{Reader}
 use Rattle.refusal.specs.declared.tellings.Layer.TheVariants as layer
@@ -21,8 +21,8 @@ Genuine m s = m s.signer (body s) s.seal ≡ true
 
 -- a packet is opened exactly if it is written of statements under genuine seals
 pub record OneOpening (m : Meaning) : Type 0 where
-  pub opens : (r : Reader) (bs : List ℕ) (s : Statement) (ss : List Statement) → packets.Written r bs s ss → All (Genuine m) (s ∷ ss) → open_packet m r bs ≡ Ok (s, map encode (s ∷ ss))
-  pub opened : (r : Reader) (bs : List ℕ) (s : Statement) (ps : List (List ℕ)) → AllBelowBase 256 bs → open_packet m r bs ≡ Ok (s, ps) → (ss : List Statement) × packets.Written r bs s ss × All (Genuine m) (s ∷ ss) × (ps ≡ map encode (s ∷ ss))
+  pub opens : (r : Reader) (bs : List ℕ) (s : Statement) (ss : List Statement) → packets.Written r bs s ss → AllByRecursion (Genuine m) (s ∷ ss) → open_packet m r bs ≡ Ok (s, map encode (s ∷ ss))
+  pub opened : (r : Reader) (bs : List ℕ) (s : Statement) (ps : List (List ℕ)) → AllBelowBase 256 bs → open_packet m r bs ≡ Ok (s, ps) → (ss : List Statement) × packets.Written r bs s ss × AllByRecursion (Genuine m) (s ∷ ss) × (ps ≡ map encode (s ∷ ss))
 
 -- what is no packet is refused as such; then the first seal that is not genuine gives the refusal
 pub data Refused (m : Meaning) (r : Reader) (bs : List ℕ) : Option Refusal → Type 0 where
@@ -33,4 +33,4 @@ pub data Refused (m : Meaning) (r : Reader) (bs : List ℕ) : Option Refusal →
 -- what the answer to some bytes says of them
 pub record Opening (m : Meaning) (r : Reader) (bs : List ℕ) (x : Result Packet SealerFault) : Type 0 where
   pub refused : Refused m r bs (told of_sealer x)
-  pub whole : IfOk x (λ p. (ss : List Statement) × packets.Written r bs p.first ss × All (Genuine m) (p.first ∷ ss) × (p.parts.now ≡ map encode (p.first ∷ ss)))
+  pub whole : IfOk x (λ p. (ss : List Statement) × packets.Written r bs p.first ss × AllByRecursion (Genuine m) (p.first ∷ ss) × (p.parts.now ≡ map encode (p.first ∷ ss)))

@@ -1,7 +1,7 @@
 -- What a proof under genuine seals is.
 use Rattle.std.specs.Prelude.{◌≡◌, ℕ, List, map, Ok, Result}
 use Rattle.std.specs.Int.Digits.{AllBelowBase}
-use Rattle.std.specs.List.{AllByRecursion as All}
+use Rattle.std.specs.List.{AllByRecursion}
 use Rattle.packet.specs.Proofs.{ProofWritten, read_proof}
 use Rattle.packet.specs.Statements.{encode}
 use Rattle.packet.specs.declared.statements.Statement.{Statement}
@@ -16,5 +16,5 @@ open_proof m bs = and_then (carried from_packet (read_proof bs)) (λ ps. and_the
 
 -- a proof is opened exactly if it is written of statements under genuine seals
 pub record OneProofOpening (m : Meaning) : Type 0 where
-  pub opens : (bs : List ℕ) (ss : List Statement) → ProofWritten bs ss → All (Genuine m) ss → open_proof m bs ≡ Ok (map encode ss)
-  pub opened : (bs : List ℕ) (ps : List (List ℕ)) → AllBelowBase 256 bs → open_proof m bs ≡ Ok ps → (ss : List Statement) × ProofWritten bs ss × All (Genuine m) ss × (ps ≡ map encode ss)
+  pub opens : (bs : List ℕ) (ss : List Statement) → ProofWritten bs ss → AllByRecursion (Genuine m) ss → open_proof m bs ≡ Ok (map encode ss)
+  pub opened : (bs : List ℕ) (ps : List (List ℕ)) → AllBelowBase 256 bs → open_proof m bs ≡ Ok ps → (ss : List Statement) × ProofWritten bs ss × AllByRecursion (Genuine m) ss × (ps ≡ map encode ss)

@@ -1,6 +1,6 @@
 -- How the holders of places change over a run of commands.
 use Rattle.std.proofs.Common.{◌≡◌, ℕ, eqb, ◌≢◌, ◌⊎◌, List, [], ◌∷◌, length, get_or, set, Some, None, Option, sym, refl, ap, ◌∙◌, inl, inr}
-use Rattle.std.specs.List.{AllByRecursion as All}
+use Rattle.std.specs.List.{AllByRecursion}
 use Rattle.std.proofs.lemmas.List.{get_or-set_same, get_or-set_other, get_or_past, get_or-replicate, set_past}
 use Rattle.std.proofs.lemmas.Bool.{cases_eq, cases_lt, cond_both, eqb-true, eqb-false}
 use Rattle.service.specs.Bookings.{BookingLaws, HeldSince, Holders, booking_next, by_request, first_holders, passed, request_of}
@@ -65,7 +65,7 @@ abbrev NotFreed : ℕ → ℕ → ℕ → Type 0
 NotFreed place holder command = request_of command ≢ Some (Free place holder)
 
 -- a holder at the end held the place from the start, or booked it on the way
-run_held : (commands : List ℕ) (holders : Holders) (place holder : ℕ) → holder ≢ 0 → at (run booking_next holders commands) place ≡ holder → ((at holders place ≡ holder) × All (NotFreed place holder) commands) ⊎ HeldSince commands place holder
+run_held : (commands : List ℕ) (holders : Holders) (place holder : ℕ) → holder ≢ 0 → at (run booking_next holders commands) place ≡ holder → ((at holders place ≡ holder) × AllByRecursion (NotFreed place holder) commands) ⊎ HeldSince commands place holder
 run_held [] holders place holder some now = inl (now, tt)
 run_held (x ∷ xs) holders place holder some now =
     elim (run_held xs (booking_next holders x) place holder some now) [

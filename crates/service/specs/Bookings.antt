@@ -1,6 +1,6 @@
 -- The booking service.
 use Rattle.std.specs.Prelude.{◌≡◌, ℕ, ◌%◌, ◌^◌, cond, ◌&&◌, ◌≢◌, ◌⊎◌, List, ◌∷◌, ◌++◌, replicate, Some, None, fold, Option, ◌==◌, nat_lt, slice_index, slice_index_or, slice_set}
-use Rattle.std.specs.List.{AllByRecursion as All}
+use Rattle.std.specs.List.{AllByRecursion}
 use Rattle.service.specs.Commands.{first_byte, second_byte, third_byte, given}
 use Rattle.service.specs.Marks.{mark_with}
 use Rattle.service.specs.Outcomes.{Outcome, refused, run}
@@ -67,7 +67,7 @@ pub record HeldSince (commands : List ℕ) (place holder : ℕ) : Type 0 where
   pub since : List ℕ
   pub parts : commands ≡ before ++ (booking ∷ since)
   pub asks : request_of booking ≡ Some (Book place holder)
-  pub kept : All (λ c. request_of c ≢ Some (Free place holder)) since
+  pub kept : AllByRecursion (λ c. request_of c ≢ Some (Free place holder)) since
 
 pub record BookingLaws : Type 0 where
   -- a command changes a place's holder only by booking it while it is free, or by freeing it for its holder
