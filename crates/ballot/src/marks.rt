@@ -18,7 +18,7 @@ pub struct MarkBallot {
 impl Ballot for MarkBallot {
     ghost held = { λ a. a.held };
 
-    ghost same = { λ a b. (a.slot.0 == b.slot.0) && a.mark == b.mark };
+    ghost same = { λ a b. a.slot.0 == b.slot.0 && a.mark == b.mark };
 
     ghost reflexive = { Prim.search rules };
 

@@ -15,7 +15,7 @@ pub struct ResultBallot {
 impl Ballot for ResultBallot {
     ghost held = { λ a. a.held };
 
-    ghost same = { λ a b. (a.result == b.result) };
+    ghost same = { λ a b. a.result == b.result };
 
     ghost reflexive = { Prim.search rules };
 

@@ -2,7 +2,7 @@
 ghost use Rattle.std.specs.Prelude.{◌≡◌, ◌<◌, ◌≤◌, MatchResult};
 ghost use Rattle.refusal.specs.declared.sealers.SealerFault.TheVariants.{Number};
 ghost use Rattle.sealer.specs.Sealers.{bench_tag, bench_genuine};
-ghost use Rattle.std.proofs.Common.{rules, arith};
+ghost use Rattle.std.proofs.Common.{rules};
 
 use super::sealers::Sealer;
 use refusal::SealerFault;
@@ -40,7 +40,7 @@ impl Sealer for BenchSealer {
 
     ghost genuine = { λ s. bench_genuine };
 
-    ghost below = { first_of (Prim.search rules, Prim.grind (arith, Self.row.coded.inj)) };
+    ghost below = { Prim.search rules };
 
     fn number(&self) -> u8 {
         self.number

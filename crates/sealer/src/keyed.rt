@@ -2,7 +2,7 @@
 ghost use Rattle.std.specs.Prelude.{◌≡◌, ◌<◌, ◌≤◌, MatchResult};
 ghost use Rattle.refusal.specs.declared.sealers.SealerFault.TheVariants.{Number};
 ghost use Rattle.sealer.specs.Sealers.{sip_genuine};
-ghost use Rattle.std.proofs.Common.{rules, arith};
+ghost use Rattle.std.proofs.Common.{rules};
 
 use super::hashes::siphash;
 use super::sealers::Sealer;
@@ -32,7 +32,7 @@ impl Sealer for SipSealer {
 
     ghost genuine = { λ s. sip_genuine s.keys };
 
-    ghost below = { first_of (Prim.search rules, Prim.grind (arith, Self.row.coded.inj)) };
+    ghost below = { Prim.search rules };
 
     fn number(&self) -> u8 {
         self.number
