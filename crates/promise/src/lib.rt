@@ -1,2 +1,3 @@
-// The step of each call of a replica, histories of a group, and the group's promise.
+// The step of each call of a replica, histories of a group, and the group's promise: definitions in `specs`, and first lemmas.
+// There is no function yet, so nothing here is promised.
 #![tactic(auto)]

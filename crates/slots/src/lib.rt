@@ -1,5 +1,5 @@
 // The state of a replica without its sealer and its service: the records of the open slots, the view, the count, the floor,
-// kept wishes and kept marks. Checks say what is refused and change nothing; acts cannot refuse.
+// kept wishes and kept marks. What is refused and what each call changes stands in `specs`; no function acts on it yet.
 #![tactic(auto)]
 
 mod cores;
