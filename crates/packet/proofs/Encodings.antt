@@ -125,3 +125,12 @@ reads_as s bs e g = ap decode e ∙ reads_back s g
 pub ok_or_ok : {X E : Type 0} (o : Option X) (e : E) (x : X) → ok_or o e ≡ Ok x → o ≡ Some x
 ok_or_ok None e x h = let z : ◌≡◌ {A = ℕ} 0 1 = cc in absurd (omega arith)
 ok_or_ok (Some y) e x h = cc
+
+-- bytes that begin with no kind, and bytes that begin with one
+pub undecoded : (bs : List ℕ) → length bs ≡ 30 → kind_of (get_or bs 0 0) ≡ None → decode bs ≡ None
+unfolding decode
+undecoded bs l e = rw (l, e) refl
+
+pub decoded : (bs : List ℕ) (k : Kind) → length bs ≡ 30 → kind_of (get_or bs 0 0) ≡ Some k → decode bs ≡ if_proper (fields k bs)
+unfolding decode
+decoded bs k l e = rw (l, e) refl

@@ -18,8 +18,8 @@ use Rattle.packet.specs.declared.statements.Statement.{Statement}
 use Rattle.packet.specs.Kinds.{byte_of, kind_of}
 use Rattle.packet.specs.Laws.{Sound, Written, OnePacket, Begins, Reading, Refused}
 use Rattle.packet.specs.Laws.Refused.{unexpected, misfit, malformed, accepted}
-use Rattle.packet.specs.Packets.{takes, has_length, parts_of, taken, first_kind, check_statements, is_statement, read_parts, read_packet, seen}
-use Rattle.packet.specs.Parts.{Passes}
+use Rattle.packet.specs.Packets.{takes, has_length, parts_of, taken, first_kind, read_parts, read_packet, seen}
+use Rattle.packet.specs.Parts.{check_statements, is_statement, Passes}
 use Rattle.refusal.specs.Refusals.{and_then, of_packet, told}
 use Rattle.packet.specs.Statements.{body, encode, decode, read_at}
 use Rattle.packet.proofs.Checks.{Checked, checked, check_passes, passes_checked}
@@ -236,9 +236,9 @@ few_parts r bs s ss ps w e =
 pub reading : (r : Reader) (bs : List ℕ) (x : Result Packet PacketFault) → ((i : ℕ) → get_or bs i 0 < 256) → seen x ≡ read_packet r bs → Reading r bs x
 reading r bs (Err d) t e = record { refused = subst (λ y. Refused r bs (told of_packet y)) (sym e) (refused_in_order r bs); whole = tt; few = tt }
 reading r bs (Ok p) t e =
-    let w = packet_there r bs p.first p.parts.now (All-from_get_or (λ d. d < 256) bs 0 (λ i _. t i)) (sym e) in
+    let w = packet_there r bs p.first p.parts.bytes.now (All-from_get_or (λ d. d < 256) bs 0 (λ i _. t i)) (sym e) in
     record {
       refused = subst (λ y. Refused r bs (told of_packet y)) (sym e) (refused_in_order r bs);
       whole = w;
-      few = few_parts r bs p.first w.0 p.parts.now w.1 w.2;
+      few = few_parts r bs p.first w.0 p.parts.bytes.now w.1 w.2;
     }

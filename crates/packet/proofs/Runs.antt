@@ -5,7 +5,8 @@ use Rattle.std.specs.Int.Digits.{AllBelowBase}
 use Rattle.refusal.specs.Refusals.{and_then}
 use Rattle.refusal.specs.declared.packets.PacketFault.TheVariants as fault
 use Rattle.packet.specs.declared.statements.Statement.{Statement}
-use Rattle.packet.specs.Packets.{parts_of, check_statements, is_statement}
+use Rattle.packet.specs.Packets.{parts_of}
+use Rattle.packet.specs.Parts.{check_statements, is_statement}
 use Rattle.packet.specs.Proofs.{OneProof, ProofWritten, has_proof_length, read_proof}
 use Rattle.packet.specs.Statements.{encode}
 use Rattle.packet.proofs.Checks.{check_passes, passes_checked}

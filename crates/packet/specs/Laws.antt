@@ -11,8 +11,8 @@ use Rattle.refusal.specs.declared.tellings.Refusal.{Refusal}
 use Rattle.packet.specs.declared.statements.Statement.{Statement}
 use Rattle.packet.specs.Fields.{Fits, proper}
 use Rattle.packet.specs.Kinds.{kind_of}
-use Rattle.packet.specs.Packets.{takes, has_length, parts_of, is_statement, sealed_part, read_packet}
-use Rattle.packet.specs.Parts.{Passes, FirstFailing}
+use Rattle.packet.specs.Packets.{takes, has_length, parts_of, sealed_part, read_packet}
+use Rattle.packet.specs.Parts.{is_statement, Passes, FirstFailing}
 use Rattle.refusal.specs.Refusals.{of_packet, tells, told}
 use Rattle.packet.specs.Statements.{body, encode, decode}
 
@@ -55,5 +55,5 @@ pub data Refused (r : Reader) (bs : List ℕ) : Option Refusal → Type 0 where
 -- what the answer to some bytes says of them
 pub record Reading (r : Reader) (bs : List ℕ) (x : Result Packet PacketFault) : Type 0 where
   pub refused : Refused r bs (told of_packet x)
-  pub whole : IfOk x (λ p. (ss : List Statement) × Written r bs p.first ss × (p.parts.now ≡ map encode (p.first ∷ ss)))
-  pub few : IfOk x (λ p. length p.parts.now ≤ 13)
+  pub whole : IfOk x (λ p. (ss : List Statement) × Written r bs p.first ss × (p.parts.bytes.now ≡ map encode (p.first ∷ ss)))
+  pub few : IfOk x (λ p. length p.parts.bytes.now ≤ 13)

@@ -1,5 +1,5 @@
 -- What a packet is: one or more whole statements, of a length that its first kind has.
-use Rattle.std.specs.Prelude.{ℕ, ◌/◌, Bool, true, false, cond, ◌||◌, List, [], ◌∷◌, length, take, is_some, Some, None, Ok, Err, Option, Result, ◌==◌, slice_index, slice_index_or}
+use Rattle.std.specs.Prelude.{ℕ, ◌/◌, Bool, true, false, cond, ◌||◌, List, [], ◌∷◌, length, take, Some, None, Ok, Err, Option, Result, ◌==◌, slice_index}
 use Rattle.std.specs.Simd.{first_chunks}
 use Rattle.packet.specs.declared.kinds.Kind.{Kind}
 use Rattle.packet.specs.declared.kinds.Kind.TheVariants.{Order, Prepare, Commit, Report, Wish, Checkpoint, Answer}
@@ -12,9 +12,9 @@ use Rattle.refusal.specs.declared.packets.PacketFault.TheVariants as fault
 use Rattle.packet.specs.declared.statements.Statement.{Statement}
 use Rattle.packet.specs.Kinds.{kind_of}
 use Rattle.packet.specs.Digits.{number_at}
-use Rattle.packet.specs.Parts.{check_from}
+use Rattle.packet.specs.Parts.{check_statements}
 use Rattle.refusal.specs.Refusals.{and_then}
-use Rattle.packet.specs.Statements.{decode, read_at}
+use Rattle.packet.specs.Statements.{read_at}
 
 abbrev replica_takes : Kind → Bool
 replica_takes Order = true
@@ -61,14 +61,6 @@ taken r (Some k) = cond (takes r k) (Ok k) (Err fault.Unexpected)
 abbrev pub first_kind : Reader → List ℕ → Result Kind PacketFault
 first_kind r bs = cond (length bs == 0) (Err fault.Unexpected) (taken r (kind_of (slice_index bs 0)))
 
--- thirty bytes that are a proper statement
-abbrev pub is_statement : List ℕ → Bool
-is_statement p = is_some (decode p)
-
--- the first part, counted from i, that is none is refused with its place
-abbrev pub check_statements : ℕ → List (List ℕ) → Result (Unit {0}) PacketFault
-check_statements i ps = check_from is_statement fault.Statement i ps
-
 -- the first statement and all parts, if each is a proper statement
 abbrev pub read_parts : List (List ℕ) → Result (Statement × List (List ℕ)) PacketFault
 read_parts [] = Err fault.Length
@@ -78,13 +70,9 @@ read_parts (p ∷ ps) = and_then (read_at 0 p) (λ s. and_then (check_statements
 unfoldable pub read_packet : Reader → List ℕ → Result (Statement × List (List ℕ)) PacketFault
 read_packet r bs = and_then (first_kind r bs) (λ k. cond (has_length k (length bs)) (read_parts (parts_of bs)) (Err fault.Length))
 
--- the statement at a place; past the last part there is none
-abbrev pub statement_at : List (List ℕ) → ℕ → Option Statement
-statement_at ps i = decode (slice_index_or ps i [])
-
 -- a packet that was read, without the reference; a layer above answers with faults of its own
 abbrev pub seen : {E : Type 0} → Result Packet E → Result (Statement × List (List ℕ)) E
-seen (Ok p) = Ok (p.first, p.parts.now)
+seen (Ok p) = Ok (p.first, p.parts.bytes.now)
 seen (Err e) = Err e
 
 -- the signer, the sealed bytes and the seal in a statement's bytes

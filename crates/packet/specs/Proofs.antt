@@ -5,10 +5,11 @@ use Rattle.std.specs.List.{flat_map, AllByRecursion}
 use Rattle.refusal.specs.Refusals.{and_then}
 use Rattle.refusal.specs.declared.packets.PacketFault.{PacketFault}
 use Rattle.refusal.specs.declared.packets.PacketFault.TheVariants as fault
-use Rattle.packet.specs.declared.proofs.Proof.{Proof}
+use Rattle.packet.specs.declared.parts.Parts.{Parts}
 use Rattle.packet.specs.declared.statements.Statement.{Statement}
 use Rattle.packet.specs.Laws.{Sound}
-use Rattle.packet.specs.Packets.{parts_of, check_statements}
+use Rattle.packet.specs.Packets.{parts_of}
+use Rattle.packet.specs.Parts.{check_statements}
 use Rattle.packet.specs.Statements.{encode}
 
 abbrev pub has_proof_length : ℕ → Bool
@@ -19,8 +20,8 @@ unfoldable pub read_proof : List ℕ → Result (List (List ℕ)) PacketFault
 read_proof bs = cond (has_proof_length (length bs)) (and_then (check_statements 0 (parts_of bs)) (λ _. Ok (parts_of bs))) (Err fault.Length)
 
 -- a proof that was read, without the reference
-abbrev pub seen_proof : {E : Type 0} → Result Proof E → Result (List (List ℕ)) E
-seen_proof (Ok p) = Ok p.parts.now
+abbrev pub seen_proof : {E : Type 0} → Result Parts E → Result (List (List ℕ)) E
+seen_proof (Ok p) = Ok p.bytes.now
 seen_proof (Err e) = Err e
 
 -- bytes that are these statements, written one after another

@@ -5,11 +5,13 @@
 mod fields;
 mod kinds;
 mod packets;
+mod parts;
 mod proofs;
 mod statements;
 
 pub use fields::{Slot, View};
-pub use kinds::Kind;
+pub use kinds::{Kind, UnknownKind};
 pub use packets::{Packet, Reader, Sealed, read_packet};
-pub use proofs::{Proof, read_proof};
+pub use parts::Parts;
+pub use proofs::read_proof;
 pub use statements::Statement;

@@ -1,10 +1,12 @@
 // A packet: one or more whole statements, read over the lent bytes.
-ghost use Rattle.std.specs.Prelude.{◌≡◌, ◌^◌, ◌<◌, ◌≤◌, length, drop};
+ghost use Rattle.std.specs.Prelude.{◌≡◌, ◌+◌, ◌^◌, ◌<◌, length};
 ghost use Rattle.packet.specs.Laws.{OnePacket, Reading};
-ghost use Rattle.packet.specs.Packets.{takes, has_length, first_kind, check_statements, read_parts, read_packet, statement_at, sealed_part, seen, seen_sealed};
+ghost use Rattle.packet.specs.Packets.{takes, has_length, first_kind, read_parts, read_packet, sealed_part, seen, seen_sealed};
+ghost use Rattle.packet.specs.Parts.{check_statements, statement_at};
 
 use super::kinds::Kind;
-use super::statements::{Statement, eight_at};
+use super::parts::Parts;
+use super::statements::{Statement, field};
 use refusal::PacketFault;
 
 // Who reads a packet, and so which kinds it may begin with.
@@ -33,16 +35,11 @@ impl Reader {
     fn first_kind(self, bytes: &[u8]) -> Result<Kind, PacketFault>
         ensures { result ≡ first_kind self bytes.now }
     {
-        if bytes.is_empty() {
-            return Err(PacketFault::Unexpected);
+        let first = bytes.first().ok_or(PacketFault::Unexpected)?;
+        match Kind::try_from(*first) {
+            Ok(kind) if self.takes(kind) => Ok(kind),
+            _ => Err(PacketFault::Unexpected),
         }
-        let Some(kind) = Kind::from_byte(bytes[0]) else {
-            return Err(PacketFault::Unexpected);
-        };
-        if !self.takes(kind) {
-            return Err(PacketFault::Unexpected);
-        }
-        Ok(kind)
     }
 }
 
@@ -52,13 +49,9 @@ impl Kind {
         ensures { result ≡ has_length self length }
     {
         match self {
-            Kind::Order => length == 30
-                || length == 120
-                || length == 210
-                || length == 300
-                || length == 390,
-            Kind::Commit => length == 30 || length == 90,
-            Kind::Report => length == 30 || length == 120,
+            Kind::Order => matches!(length, 30 | 120 | 210 | 300 | 390),
+            Kind::Commit => matches!(length, 30 | 90),
+            Kind::Report => matches!(length, 30 | 120),
             Kind::Prepare | Kind::Wish | Kind::Checkpoint | Kind::Answer => length == 30,
         }
     }
@@ -72,17 +65,17 @@ pub struct Sealed<'a> {
     pub seal: u64,
 }
 
-impl<'a> Sealed<'a> {
-    pub fn of(part: &'a [u8; 30]) -> Sealed<'a>
-        ensures { seen_sealed result ≡ sealed_part part.now }
-    {
+impl<'a> From<&'a [u8; 30]> for Sealed<'a> {
+    ghost from_gives = { λ part r. seen_sealed r ≡ sealed_part part.now };
+
+    fn from(part: &'a [u8; 30]) -> Sealed<'a> {
         let Some(body) = part.first_chunk::<22>() else {
-            unreachable()
+            unreachable!()
         };
         Sealed {
             signer: part[1],
             body,
-            seal: eight_at(part, 22),
+            seal: u64::from_be_bytes(field(part, 22)),
         }
     }
 }
@@ -91,30 +84,20 @@ impl<'a> Sealed<'a> {
 #[derive(Clone, Copy)]
 pub struct Packet<'a> {
     pub first: Statement,
-    pub parts: &'a [[u8; 30]],
+    pub parts: Parts<'a>,
 }
 
-// Reads the statements from a place on, and refuses the first that is none.
-pub(crate) fn check_from(first: usize, parts: &[[u8; 30]]) -> Result<(), PacketFault>
-    requires { (first ≤ length parts.now) × (length parts.now < 2 ^ 32) }
-    ensures { result ≡ check_statements first (drop first parts.now) }
+fn read_parts(parts: Parts<'_>) -> Result<Packet<'_>, PacketFault>
+    requires { 0 < length parts.bytes.now }
+    ensures { seen result ≡ read_parts parts.entry.bytes.now }
 {
-    for i in first..parts.len() {
-        Statement::read(&parts[i], i as u32)?;
-    }
-    Ok(())
-}
-
-fn read_parts(parts: &[[u8; 30]]) -> Result<Packet<'_>, PacketFault>
-    requires { (0 < length parts.now) × (length parts.now < 2 ^ 32) }
-    ensures { seen result ≡ read_parts parts.now }
-{
-    let first = Statement::read(&parts[0], 0)?;
-    check_from(1, parts)?;
+    let first = Statement::read(&parts.bytes[0], 0)?;
+    parts.check_from(1)?;
     Ok(Packet { first, parts })
 }
 
 // The packet in these bytes, or the first reason to refuse it.
+#[tactic(auto, using(crate::proofs::Readings::one_packet, crate::proofs::Readings::reading), unfolding(crate::specs::Packets::read_packet))]
 pub fn read_packet(reader: Reader, bytes: &[u8]) -> Result<Packet<'_>, PacketFault>
     ensures exact { seen result ≡ read_packet reader bytes.now }
     ensures reading { Reading reader bytes.now result }
@@ -124,25 +107,6 @@ pub fn read_packet(reader: Reader, bytes: &[u8]) -> Result<Packet<'_>, PacketFau
     if !kind.has_length(bytes.len()) {
         return Err(PacketFault::Length);
     }
-    let (parts, _) = bytes.as_chunks::<30>();
-    read_parts(parts)
-}
-
-impl Packet<'_> {
-    // How many statements there are.
-    pub fn count(&self) -> usize
-        ensures { result ≡ length self.now.parts.now }
-    {
-        self.parts.len()
-    }
-
-    // The statement at a place, counted from 0; none past the last.
-    pub fn statement(&self, place: usize) -> Option<Statement>
-        ensures { result ≡ statement_at self.now.parts.now place }
-    {
-        if place >= self.count() {
-            return None;
-        }
-        Statement::read(&self.parts[place], 0).ok()
-    }
+    let (bytes, _) = bytes.as_chunks::<30>();
+    read_parts(Parts { bytes })
 }

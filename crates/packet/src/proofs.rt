@@ -2,31 +2,27 @@
 ghost use Rattle.std.specs.Prelude.{◌≡◌, ◌≤◌, length, IfOk};
 ghost use Rattle.packet.specs.Proofs.{OneProof, has_proof_length, read_proof, seen_proof};
 
-use super::packets::check_from;
+use super::parts::Parts;
 use refusal::PacketFault;
-
-// A proof that was read: the lent bytes of each statement.
-#[derive(Clone, Copy)]
-pub struct Proof<'a> {
-    pub parts: &'a [[u8; 30]],
-}
 
 fn is_proof_length(length: usize) -> bool
     ensures { result ≡ has_proof_length length }
 {
-    length == 0 || length == 90 || length == 180 || length == 270 || length == 360
+    matches!(length, 0 | 90 | 180 | 270 | 360)
 }
 
 // The statements in these bytes, or the first reason to refuse them.
-pub fn read_proof(bytes: &[u8]) -> Result<Proof<'_>, PacketFault>
+#[tactic(auto, using(crate::proofs::Runs::one_proof, crate::proofs::Runs::proof_length), unfolding(crate::specs::Proofs::read_proof))]
+pub fn read_proof(bytes: &[u8]) -> Result<Parts<'_>, PacketFault>
     ensures exact { seen_proof result ≡ read_proof bytes.now }
-    ensures few { IfOk result (λ p. length p.parts.now ≤ 12) }
+    ensures few { IfOk result (λ p. length p.bytes.now ≤ 12) }
     ensures law { OneProof }
 {
     if !is_proof_length(bytes.len()) {
         return Err(PacketFault::Length);
     }
-    let (parts, _) = bytes.as_chunks::<30>();
-    check_from(0, parts)?;
-    Ok(Proof { parts })
+    let (bytes, _) = bytes.as_chunks::<30>();
+    let proof = Parts { bytes };
+    proof.check_from(0)?;
+    Ok(proof)
 }

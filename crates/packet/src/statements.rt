@@ -1,6 +1,5 @@
 // A statement: thirty bytes, numbers high byte first, sealed over the first 22.
-ghost use Rattle.std.specs.Prelude.{◌≡◌, ◌+◌, ◌^◌, ◌<◌, ◌≤◌, true, length, Some};
-ghost use Rattle.packet.specs.Digits.{bytes_of, number_at};
+ghost use Rattle.std.specs.Prelude.{◌≡◌, ◌+◌, ◌^◌, ◌<◌, ◌≤◌, true, take, drop, Some};
 ghost use Rattle.packet.specs.Fields.{Fits, proper};
 ghost use Rattle.packet.specs.Laws.{OneEncoding};
 ghost use Rattle.packet.specs.Statements.{body, encode, decode, fields, read_at};
@@ -21,77 +20,39 @@ pub struct Statement {
     pub seal: u64,
 }
 
-fn four(n: u32) -> [u8; 4]
-    ensures exact { result ≡ bytes_of 4 n }
-    ensures fits { n < 256 ^ 4 }
+// Some of a statement's bytes, from a place on.
+pub(crate) fn field<const N: usize>(bytes: &[u8; 30], at: usize) -> [u8; N]
+    requires { at + N ≤ 30 }
+    ensures { result ≡ take N (drop at bytes.now) }
 {
-    n.to_be_bytes()
+    let Some(field) = bytes[at..].first_chunk::<N>() else {
+        unreachable!()
+    };
+    *field
 }
 
-fn eight(word: u64) -> [u8; 8]
-    ensures exact { result ≡ bytes_of 8 word }
-    ensures fits { word < 256 ^ 8 }
-{
-    word.to_be_bytes()
-}
-
-fn four_at(bytes: &[u8; 30], at: usize) -> u32
-    requires { at + 4 ≤ 30 }
-    ensures { result ≡ number_at 4 bytes.now at }
-{
-    u32::from_be_bytes([bytes[at], bytes[at + 1], bytes[at + 2], bytes[at + 3]])
-}
-
-pub(crate) fn eight_at(bytes: &[u8; 30], at: usize) -> u64
-    requires { at + 8 ≤ 30 }
-    ensures { result ≡ number_at 8 bytes.now at }
-{
-    u64::from_be_bytes([
-        bytes[at],
-        bytes[at + 1],
-        bytes[at + 2],
-        bytes[at + 3],
-        bytes[at + 4],
-        bytes[at + 5],
-        bytes[at + 6],
-        bytes[at + 7],
-    ])
-}
+// Promises that each number fits the bytes that it has, which its type says of a value in hand, and does nothing.
+fn fit(statement: Statement)
+    ensures fits { Fits statement }
+    ensures seal { statement.seal < 256 ^ 8 }
+{}
 
 impl Statement {
     // The 22 bytes that the seal covers.
+    #[tactic(auto, using(crate::proofs::Digits::four_written, crate::proofs::Digits::eight_written), unfolding(crate::specs::Statements::body))]
     pub fn body(&self) -> [u8; 22]
         ensures exact { result ≡ body self.now }
         ensures fits { Fits self.now }
     {
-        let v = four(self.view.0);
-        let s = four(self.slot.0);
-        let e = four(self.earlier.0);
-        let c = eight(self.command);
-        [
-            self.kind.byte(),
-            self.signer,
-            v[0],
-            v[1],
-            v[2],
-            v[3],
-            s[0],
-            s[1],
-            s[2],
-            s[3],
-            e[0],
-            e[1],
-            e[2],
-            e[3],
-            c[0],
-            c[1],
-            c[2],
-            c[3],
-            c[4],
-            c[5],
-            c[6],
-            c[7],
-        ]
+        fit(*self);
+        let mut bytes = [0; 22];
+        bytes[0] = u8::from(self.kind);
+        bytes[1] = self.signer;
+        bytes[2..6].copy_from_slice(&self.view.0.to_be_bytes());
+        bytes[6..10].copy_from_slice(&self.slot.0.to_be_bytes());
+        bytes[10..14].copy_from_slice(&self.earlier.0.to_be_bytes());
+        bytes[14..22].copy_from_slice(&self.command.to_be_bytes());
+        bytes
     }
 
     fn fields(kind: Kind, bytes: &[u8; 30]) -> Statement
@@ -100,37 +61,44 @@ impl Statement {
         Statement {
             kind,
             signer: bytes[1],
-            view: View(four_at(bytes, 2)),
-            slot: Slot(four_at(bytes, 6)),
-            earlier: View(four_at(bytes, 10)),
-            command: eight_at(bytes, 14),
-            seal: eight_at(bytes, 22),
+            view: View(u32::from_be_bytes(field(bytes, 2))),
+            slot: Slot(u32::from_be_bytes(field(bytes, 6))),
+            earlier: View(u32::from_be_bytes(field(bytes, 10))),
+            command: u64::from_be_bytes(field(bytes, 14)),
+            seal: u64::from_be_bytes(field(bytes, 22)),
         }
     }
 
     // The thirty bytes. A proper statement is read back from them.
+    #[tactic(auto, using(crate::proofs::Digits::eight_written), unfolding(crate::specs::Statements::encode, crate::specs::Statements::body))]
     pub fn write(&self) -> [u8; 30]
         ensures exact { result ≡ encode self.now }
         ensures back { proper self.now ≡ true → decode result ≡ Some self.now }
     {
+        fit(*self);
         let mut bytes = [0; 30];
         bytes[0..22].copy_from_slice(&self.body());
-        bytes[22..30].copy_from_slice(&eight(self.seal));
+        bytes[22..30].copy_from_slice(&self.seal.to_be_bytes());
         bytes
     }
 
-    // The proper statement in these bytes, which stand at a place of a packet.
+    // The proper statement in these bytes, if they hold one.
+    #[tactic(auto, using(crate::proofs::Encodings::one_encoding, crate::proofs::Encodings::undecoded, crate::proofs::Encodings::decoded), unfolding(crate::specs::Statements::decode))]
+    pub fn decode(bytes: &[u8; 30]) -> Option<Statement>
+        ensures exact { result ≡ decode bytes.now }
+        ensures law { OneEncoding }
+    {
+        let kind = Kind::try_from(bytes[0]).ok()?;
+        let statement = Statement::fields(kind, bytes);
+        statement.is_proper().then_some(statement)
+    }
+
+    // The same for bytes that stand at a place of a packet, where anything else is refused.
+    #[tactic(auto, using(crate::proofs::Encodings::one_encoding))]
     pub fn read(bytes: &[u8; 30], place: u32) -> Result<Statement, PacketFault>
         ensures exact { result ≡ read_at place bytes.now }
         ensures law { OneEncoding }
     {
-        let Some(kind) = Kind::from_byte(bytes[0]) else {
-            return Err(PacketFault::Statement { place });
-        };
-        let statement = Statement::fields(kind, bytes);
-        if !statement.is_proper() {
-            return Err(PacketFault::Statement { place });
-        }
-        Ok(statement)
+        Statement::decode(bytes).ok_or(PacketFault::Statement { place })
     }
 }

@@ -4,7 +4,8 @@ use Rattle.std.proofs.Math.ListN as lists
 use Rattle.std.specs.Int.Digits.{AllBelowBase}
 use Rattle.agreement.specs.Lists.{Among}
 use Rattle.packet.specs.Laws as packets
-use Rattle.packet.specs.Packets.{parts_of, is_statement}
+use Rattle.packet.specs.Packets.{parts_of}
+use Rattle.packet.specs.Parts.{is_statement}
 use Rattle.packet.specs.declared.packets.Reader.TheVariants.{Replica}
 use Rattle.packet.specs.declared.statements.Statement.{Statement}
 use Rattle.proof.specs.Roles.{primary, active, backups}

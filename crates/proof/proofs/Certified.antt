@@ -7,7 +7,7 @@ use Rattle.agreement.specs.Lists.{Among}
 use Rattle.agreement.specs.Lists.Among.{here, there}
 use Rattle.packet.specs.Fields.{proper, rule, valid}
 use Rattle.packet.specs.Laws.{Sound}
-use Rattle.packet.specs.Packets.{statement_at}
+use Rattle.packet.specs.Parts.{statement_at}
 use Rattle.packet.specs.Statements.{encode}
 use Rattle.packet.specs.declared.kinds.Kind.{Kind}
 use Rattle.packet.specs.declared.kinds.Kind.TheVariants.{Order, Prepare, Commit}

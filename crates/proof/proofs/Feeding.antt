@@ -1,5 +1,5 @@
 -- What the law of agreement takes from the rules.
-use Rattle.std.proofs.Common.{◌≡◌, ℕ, ◌<◌, List, [], ◌∷◌, ◌++◌, map, sym, refl, ap, ◌∙◌, subst, inl, inr}
+use Rattle.std.proofs.Common.{◌≡◌, ℕ, ◌<◌, List, [], ◌∷◌, ◌++◌, map, sym, ap, subst, inl, inr}
 use Rattle.agreement.specs.Groups.{Correct, Quorum}
 use Rattle.agreement.specs.Lists.{Among}
 use Rattle.agreement.specs.Lists.Among.{here, there}

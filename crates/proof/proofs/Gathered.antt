@@ -13,7 +13,7 @@ use Rattle.agreement.proofs.Lists.{each_cons}
 use Rattle.packet.proofs.Readings.{and_then_ok, cond_ok}
 use Rattle.packet.specs.Fields.{valid}
 use Rattle.packet.specs.Laws.{Sound}
-use Rattle.packet.specs.Packets.{statement_at}
+use Rattle.packet.specs.Parts.{statement_at}
 use Rattle.packet.specs.Statements.{encode}
 use Rattle.packet.specs.Kinds.{byte_of}
 use Rattle.packet.specs.declared.kinds.Kind.TheVariants.{Report}

@@ -1,3 +1,4 @@
+pub mod Tests
 pub mod Actives
 pub mod Places
 pub mod Certified

@@ -4,7 +4,7 @@ use Rattle.std.specs.List.{AllByRecursion}
 use Rattle.packet.proofs.Encodings.{kind_back, reads_back}
 use Rattle.packet.specs.Kinds.{byte_of}
 use Rattle.packet.specs.Laws.{Sound}
-use Rattle.packet.specs.Packets.{statement_at}
+use Rattle.packet.specs.Parts.{statement_at}
 use Rattle.packet.specs.Statements.{decode, encode, statement}
 use Rattle.packet.specs.declared.kinds.Kind.{Kind}
 use Rattle.packet.specs.declared.statements.Statement.{Statement}

@@ -1,7 +1,7 @@
 -- Certificates: statements of a view's active replicas, for one slot and one command.
 use Rattle.std.specs.Prelude.{ℕ, ◌+◌, Bool, true, false, ◌&&◌, List, [], ◌∷◌, Some, None, Option, ◌==◌}
 use Rattle.packet.specs.Kinds.{byte_of}
-use Rattle.packet.specs.Packets.{statement_at}
+use Rattle.packet.specs.Parts.{statement_at}
 use Rattle.packet.specs.declared.kinds.Kind.{Kind}
 use Rattle.packet.specs.declared.kinds.Kind.TheVariants.{Order, Prepare, Commit}
 use Rattle.packet.specs.declared.statements.Statement.{Statement}

@@ -1,13 +1,13 @@
 -- Reports, and what the reports behind an order bind it to.
-use Rattle.std.specs.Prelude.{ℕ, zero, suc, ◌+◌, max, Bool, true, cond, ◌&&◌, ◌||◌, List, [], ◌∷◌, length, Some, None, Ok, Err, Option, Result, ◌==◌, nat_lt}
+use Rattle.std.specs.Prelude.{ℕ, zero, suc, ◌+◌, max, Bool, true, cond, ◌&&◌, ◌||◌, List, [], ◌∷◌, length, drop, Some, None, Ok, Err, Option, Result, ◌==◌, nat_lt}
 use Rattle.packet.specs.Kinds.{byte_of}
-use Rattle.packet.specs.Packets.{statement_at}
+use Rattle.packet.specs.Parts.{statement_at}
 use Rattle.packet.specs.declared.kinds.Kind.TheVariants.{Report}
 use Rattle.packet.specs.declared.statements.Statement.{Statement}
 use Rattle.refusal.specs.Refusals.{and_then}
 use Rattle.refusal.specs.declared.proofs.ProofFault.{ProofFault}
 use Rattle.refusal.specs.declared.proofs.ProofFault.TheVariants.{Rule}
-use Rattle.proof.specs.declared.reports.Reports.{Reports}
+use Rattle.proof.specs.declared.reports.Group.{Group}
 use Rattle.proof.specs.Certificates.{prepared}
 
 -- a test is passed, or the rule is broken
@@ -65,14 +65,6 @@ all_allow h c (r ∷ rs) = allows h c r && all_allow h c rs
 unfoldable pub justify : (c : ℕ) → List Statement → Bool
 justify c rs = rising rs && all_allow (highest rs) c rs
 
--- three reports as a list
-abbrev pub listed : Reports → List Statement
-listed r = r.first ∷ r.second ∷ r.third ∷ []
-
-abbrev pub seen_reports : Result Reports ProofFault → Result (List Statement) ProofFault
-seen_reports (Ok r) = Ok (listed r)
-seen_reports (Err e) = Err e
-
 -- three groups from place i on that justify an order of view v, slot n and command c
 unfoldable pub check_reports : (v n c : ℕ) → List (List ℕ) → ℕ → Result (Unit {0}) ProofFault
 check_reports v n c ps i = and_then (reports_from 3 v n ps i) (λ rs. holds (justify c rs))
@@ -80,3 +72,11 @@ check_reports v n c ps i = and_then (reports_from 3 v n ps i) (λ rs. holds (jus
 -- in view 1 nothing stands from place i on, in any other view three groups do
 unfoldable pub check_backing : (v n c : ℕ) → List (List ℕ) → ℕ → Result (Unit {0}) ProofFault
 check_backing v n c ps i = cond (v == 1) (holds (length ps == i)) (check_reports v n c ps i)
+
+-- the report of the group that parts begin with, and the parts behind the group
+abbrev pub group_of : (v n : ℕ) → List (List ℕ) → Result (Statement × List (List ℕ)) ProofFault
+group_of v n ps = and_then (report_at v n ps 0) (λ r. Ok (r, drop (behind 0 r) ps))
+
+abbrev pub seen_group : Result Group ProofFault → Result (Statement × List (List ℕ)) ProofFault
+seen_group (Ok g) = Ok (g.report, g.behind.now)
+seen_group (Err e) = Err e

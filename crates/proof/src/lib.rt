@@ -7,5 +7,6 @@ mod checks;
 mod reports;
 mod roles;
 
+pub use certificates::Choice;
 pub use checks::{check_packet, check_proof};
 pub use roles::{active, backups, primary, spare};

@@ -1,31 +1,32 @@
 // Reports, and what the reports behind an order bind it to.
-ghost use Rattle.std.specs.Prelude.{◌≡◌, ◌≤◌, length, ◌==◌};
-ghost use Rattle.proof.specs.Reports.{holds, reports_on, certified, report_at, behind, reports_from, rising, highest, allows, all_allow, justify, listed, seen_reports, check_reports, check_backing};
+ghost use Rattle.std.specs.Prelude.{◌≡◌, ◌≤◌, length, IfOk};
+ghost use Rattle.proof.specs.Reports.{holds, reports_on, highest, allows, all_allow, justify, seen_group, group_of, behind, check_reports, check_backing};
 
-use super::certificates::{Choice, statement_at};
-use packet::{Kind, Statement};
+use super::certificates::Choice;
+use packet::{Kind, Statement, View};
 use refusal::ProofFault;
 
-// The place behind the group of the report at a place.
-fn behind(place: usize, report: &Statement) -> usize
-    requires { place ≤ 9 }
-    ensures { result ≡ behind place report.now }
+// A test is passed, or the rule is broken.
+pub(crate) fn rule(kept: bool) -> Result<(), ProofFault>
+    ensures { result ≡ holds kept }
 {
-    if report.earlier.0 == 0 {
-        place + 1
-    } else {
-        place + 4
-    }
+    if kept { Ok(()) } else { Err(ProofFault::Rule) }
 }
 
-// Checks that nothing stands from a place on.
-fn check_end(parts: &[[u8; 30]], place: usize) -> Result<(), ProofFault>
-    ensures { result ≡ holds (length parts.now == place) }
+// A report, and the parts behind it and its certificate.
+#[derive(Clone, Copy)]
+struct Group<'a> {
+    report: Statement,
+    behind: &'a [[u8; 30]],
+}
+
+// The highest earlier view that a report names.
+fn highest(reports: &[Statement]) -> u32
+    ensures { result ≡ highest reports.now }
 {
-    if parts.len() != place {
-        return Err(ProofFault::Rule);
-    }
-    Ok(())
+    reports
+        .iter()
+        .fold(0, |highest, report| report.earlier.0.max(highest))
 }
 
 // Whether a report allows a command, by the highest earlier view that was reported.
@@ -35,44 +36,23 @@ fn allows(highest: u32, command: u64, report: &Statement) -> bool
     highest == 0 || report.earlier.0 < highest || report.command == command
 }
 
-// The reports of three groups, in their order.
-#[derive(Drop)]
-struct Reports {
-    first: Statement,
-    second: Statement,
-    third: Statement,
+fn all_allow(highest: u32, command: u64, reports: &[Statement]) -> bool
+    ensures { result ≡ all_allow highest command reports.now }
+{
+    reports
+        .iter()
+        .all(|report| allows(highest, command, report))
 }
 
-impl Reports {
-    fn highest(&self) -> u32
-        ensures { result ≡ highest (listed self.now) }
-    {
-        let last = self.second.earlier.0.max(self.third.earlier.0);
-        self.first.earlier.0.max(last)
-    }
-
-    fn rise(&self) -> bool
-        ensures { result ≡ rising (listed self.now) }
-    {
-        self.first.signer < self.second.signer && self.second.signer < self.third.signer
-    }
-
-    // Whether each allows the command.
-    fn allow(&self, command: u64) -> bool
-        ensures { result ≡ all_allow (highest (listed self.now)) command (listed self.now) }
-    {
-        let highest = self.highest();
-        allows(highest, command, &self.first)
-            && allows(highest, command, &self.second)
-            && allows(highest, command, &self.third)
-    }
-
-    // Whether an order may name the command.
-    fn justify(&self, command: u64) -> bool
-        ensures { result ≡ justify command (listed self.now) }
-    {
-        self.rise() && self.allow(command)
-    }
+// Whether an order may name the command, by three reports.
+#[tactic(auto, unfolding(crate::specs::Reports::justify))]
+fn justify(command: u64, reports: &[Statement; 3]) -> bool
+    ensures { result ≡ justify command reports.now }
+{
+    let [first, second, third] = reports;
+    first.signer < second.signer
+        && second.signer < third.signer
+        && all_allow(highest(reports), command, reports)
 }
 
 impl Choice {
@@ -80,78 +60,65 @@ impl Choice {
     fn is_reported(self, report: &Statement) -> bool
         ensures { result ≡ reports_on self.view.0 self.slot.0 report.now }
     {
-        report.kind.byte() == Kind::Report.byte()
-            && report.view == self.view
-            && report.slot == self.slot
+        report.kind == Kind::Report && report.view == self.view && report.slot == self.slot
     }
 
-    // Whether a report stands alone, or its certificate stands at a place.
-    fn is_certified(self, report: &Statement, parts: &[[u8; 30]], place: usize) -> bool
-        requires { place ≤ 10 }
-        ensures { result ≡ certified self.slot.0 parts.now place report.now }
+    // The group that the parts begin with: a report that stands alone, or has the certificate of its earlier view behind it.
+    #[tactic(auto, using(crate::proofs::Shifted::group_none, crate::proofs::Shifted::group_unread, crate::proofs::Shifted::group_unlike))]
+    fn group(self, parts: &[[u8; 30]]) -> Result<Group<'_>, ProofFault>
+        ensures exact { seen_group result ≡ group_of self.view.0 self.slot.0 parts.now }
+        ensures there { IfOk result (λ g. behind 0 g.report ≤ length parts.now) }
     {
+        let [part, rest @ ..] = parts else {
+            return Err(ProofFault::Rule);
+        };
+        let Some(report) = Statement::decode(part) else {
+            return Err(ProofFault::Rule);
+        };
+        if !self.is_reported(&report) {
+            return Err(ProofFault::Rule);
+        }
+        if report.earlier == View(0) {
+            return Ok(Group {
+                report,
+                behind: rest,
+            });
+        }
         let named = Choice {
             view: report.earlier,
             slot: self.slot,
             command: report.command,
         };
-        report.earlier.0 == 0 || named.is_prepared(parts, place)
-    }
-
-    // The report of the group that begins at a place.
-    fn report_at(self, parts: &[[u8; 30]], place: usize) -> Result<Statement, ProofFault>
-        requires { place ≤ 9 }
-        ensures { result ≡ report_at self.view.0 self.slot.0 parts.now place }
-    {
-        let Some(report) = statement_at(parts, place) else {
-            return Err(ProofFault::Rule);
-        };
-        if !self.is_reported(&report) || !self.is_certified(&report, parts, place + 1) {
+        if !named.is_prepared(rest) {
             return Err(ProofFault::Rule);
         }
-        Ok(report)
-    }
-
-    // The reports of three groups from a place on, with nothing behind them.
-    fn three_reports(self, parts: &[[u8; 30]], place: usize) -> Result<Reports, ProofFault>
-        requires { place ≤ 1 }
-        ensures { seen_reports result ≡ reports_from 3 self.view.0 self.slot.0 parts.now place }
-    {
-        let first = self.report_at(parts, place)?;
-        let after_first = behind(place, &first);
-        let second = self.report_at(parts, after_first)?;
-        let after_second = behind(after_first, &second);
-        let third = self.report_at(parts, after_second)?;
-        if behind(after_second, &third) != parts.len() {
-            return Err(ProofFault::Rule);
-        }
-        Ok(Reports {
-            first,
-            second,
-            third,
+        Ok(Group {
+            report,
+            behind: &rest[3..],
         })
     }
 
-    fn check_reports(self, parts: &[[u8; 30]], place: usize) -> Result<(), ProofFault>
-        requires { place ≤ 1 }
-        ensures { result ≡ check_reports self.view.0 self.slot.0 self.command parts.now place }
+    // Checks three groups with nothing behind them, whose reports justify the command.
+    #[tactic(auto, using(crate::proofs::Shifted::first_fails, crate::proofs::Shifted::second_fails, crate::proofs::Shifted::third_fails, crate::proofs::Shifted::three_stand))]
+    fn check_reports(self, parts: &[[u8; 30]]) -> Result<(), ProofFault>
+        ensures { result ≡ check_reports self.view.0 self.slot.0 self.command parts.now 0 }
     {
-        let reports = self.three_reports(parts, place)?;
-        if !reports.justify(self.command) {
-            return Err(ProofFault::Rule);
-        }
-        Ok(())
+        let first = self.group(parts)?;
+        let second = self.group(first.behind)?;
+        let third = self.group(second.behind)?;
+        rule(third.behind.is_empty())?;
+        rule(justify(self.command, &[first.report, second.report, third.report]))
     }
 
-    // Checks what an order rests on, which begins at a place: nothing in view 1, in any other view three reports.
-    pub(crate) fn check_backing(self, parts: &[[u8; 30]], place: usize) -> Result<(), ProofFault>
-        requires { place ≤ 1 }
-        ensures { result ≡ check_backing self.view.0 self.slot.0 self.command parts.now place }
+    // Checks what an order rests on: nothing in view 1, in any other view three reports.
+    #[tactic(auto, unfolding(crate::specs::Reports::check_backing))]
+    pub(crate) fn check_backing(self, parts: &[[u8; 30]]) -> Result<(), ProofFault>
+        ensures { result ≡ check_backing self.view.0 self.slot.0 self.command parts.now 0 }
     {
-        if self.view.0 == 1 {
-            check_end(parts, place)
+        if self.view == View(1) {
+            rule(parts.is_empty())
         } else {
-            self.check_reports(parts, place)
+            self.check_reports(parts)
         }
     }
 }

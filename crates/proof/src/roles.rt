@@ -33,6 +33,7 @@ fn all_but(number: u8) -> [u8; 3]
 }
 
 // The replicas that vote: all but the spare, by rising number.
+#[tactic(auto, unfolding(crate::specs::Roles::active))]
 pub fn active(view: View) -> [u8; 3]
     ensures exact { result ≡ active view.0 }
     ensures law { ActiveQuorum }
@@ -54,6 +55,7 @@ fn two_of(low: u8, middle: u8, high: u8, without: u8) -> [u8; 2]
 }
 
 // The active replicas but the primary, by rising number.
+#[tactic(auto, using(crate::proofs::Actives::parts_differ, crate::proofs::Actives::backups_picked))]
 pub fn backups(view: View) -> [u8; 2]
     ensures exact { result ≡ backups view.0 }
     ensures law { PartsDiffer }

@@ -66,55 +66,31 @@ impl ReplicaFault {
     }
 }
 
-// What happened and what to do, for faults of what was handed in.
-fn write_handed<W: fmt::Write>(fault: ReplicaFault, f: &mut fmt::Formatter<W>) -> fmt::Result {
-    let refusal = fault.refusal();
-    let words = match fault {
-        ReplicaFault::Space =>
-            "the reply space is too small; hand in 390 bytes or more, and call again",
-        ReplicaFault::View =>
-            "the statement is of another view than this replica's; let the replica catch up by wishes, or drop the packet",
-        ReplicaFault::Role =>
-            "the signer or this replica has no such part in this view; look up who leads and who rests in it",
-        ReplicaFault::Unlike =>
-            "something else is ordered, decided or marked here; the first stays, and the signer should be looked at",
-        _ => "this is held already; nothing needs to be done",
-    };
-    write!(f, "{refusal}: {words}")
-}
-
-// What happened and what to do, for faults of where this replica stands.
-fn write_standing<W: fmt::Write>(fault: ReplicaFault, f: &mut fmt::Formatter<W>) -> fmt::Result {
-    let refusal = fault.refusal();
-    let words = match fault {
-        ReplicaFault::Slot =>
-            "the slot is not open here, or the checkpoint is not one of the next two; run the decided slots and exchange checkpoints",
-        ReplicaFault::Unordered =>
-            "the slot has no order in this view yet; hand in the order first, then this vote again",
-        ReplicaFault::Prepared =>
-            "the slot is prepared in the present view, so there is nothing to report yet; leave the view first",
-        ReplicaFault::Undecided =>
-            "the slot is not decided yet; wait for its commits, or hand in a decision certificate",
-        _ => "this is the last view, and it cannot be left",
-    };
-    write!(f, "{refusal}: {words}")
-}
-
 impl fmt::Display for ReplicaFault {
     fn fmt<W: fmt::Write>(&self, f: &mut fmt::Formatter<W>) -> fmt::Result {
-        match self {
-            ReplicaFault::Proof(fault) => write!(f, "{fault}"),
-            ReplicaFault::Space
-            | ReplicaFault::View
-            | ReplicaFault::Role
-            | ReplicaFault::Unlike
-            | ReplicaFault::Held => write_handed(*self, f),
-            ReplicaFault::Slot
-            | ReplicaFault::Unordered
-            | ReplicaFault::Prepared
-            | ReplicaFault::Undecided
-            | ReplicaFault::LastView => write_standing(*self, f),
-        }
+        let refusal = self.refusal();
+        let words = match self {
+            ReplicaFault::Proof(fault) => return write!(f, "{fault}"),
+            ReplicaFault::Space =>
+                "the reply space is too small; hand in 390 bytes or more, and call again",
+            ReplicaFault::View =>
+                "the statement is of another view than this replica's; let the replica catch up by wishes, or drop the packet",
+            ReplicaFault::Role =>
+                "the signer or this replica has no such part in this view; look up who leads and who rests in it",
+            ReplicaFault::Slot =>
+                "the slot is not open here, or the checkpoint is not one of the next two; run the decided slots and exchange checkpoints",
+            ReplicaFault::Unordered =>
+                "the slot has no order in this view yet; hand in the order first, then this vote again",
+            ReplicaFault::Unlike =>
+                "something else is ordered, decided or marked here; the first stays, and the signer should be looked at",
+            ReplicaFault::Held => "this is held already; nothing needs to be done",
+            ReplicaFault::Prepared =>
+                "the slot is prepared in the present view, so there is nothing to report yet; leave the view first",
+            ReplicaFault::Undecided =>
+                "the slot is not decided yet; wait for its commits, or hand in a decision certificate",
+            ReplicaFault::LastView => "this is the last view, and it cannot be left",
+        };
+        write!(f, "{refusal}: {words}")
     }
 }
 

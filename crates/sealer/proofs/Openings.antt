@@ -79,5 +79,5 @@ module _ (m : Meaning) where
   opening r bs (Err d) t e = record { refused = subst (λ y. Refused m r bs (told of_sealer y)) (sym e) (refused r bs); whole = tt }
   opening r bs (Ok p) t e = record {
     refused = subst (λ y. Refused m r bs (told of_sealer y)) (sym e) (refused r bs);
-    whole = was_opened r bs p.first p.parts.now (All-from_get_or (λ d. d < 256) bs 0 (λ i _. t i)) (sym e);
+    whole = was_opened r bs p.first p.parts.bytes.now (All-from_get_or (λ d. d < 256) bs 0 (λ i _. t i)) (sym e);
   }

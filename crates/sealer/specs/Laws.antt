@@ -33,4 +33,4 @@ pub data Refused (m : Meaning) (r : Reader) (bs : List ℕ) : Option Refusal →
 -- what the answer to some bytes says of them
 pub record Opening (m : Meaning) (r : Reader) (bs : List ℕ) (x : Result Packet SealerFault) : Type 0 where
   pub refused : Refused m r bs (told of_sealer x)
-  pub whole : IfOk x (λ p. (ss : List Statement) × packets.Written r bs p.first ss × AllByRecursion (Genuine m) (p.first ∷ ss) × (p.parts.now ≡ map encode (p.first ∷ ss)))
+  pub whole : IfOk x (λ p. (ss : List Statement) × packets.Written r bs p.first ss × AllByRecursion (Genuine m) (p.first ∷ ss) × (p.parts.bytes.now ≡ map encode (p.first ∷ ss)))

@@ -1,6 +1,6 @@
 // SipHash-2-4 over bytes of any length.
-ghost use Rattle.std.specs.Prelude.{◌≡◌, ◌+◌, ◌*◌, ◌^◌, ◌<◌, ◌≤◌, length};
-ghost use Rattle.sealer.specs.Siphash.{first_half, second_half, sip_round, low, keyed, compressed, finished, last_word, siphash};
+ghost use Rattle.std.specs.Prelude.{◌≡◌, ◌+◌, ◌*◌, ◌%◌, ◌^◌, ◌≤◌, length};
+ghost use Rattle.sealer.specs.Siphash.{first_half, second_half, sip_round, low, keyed, compressed, finished, siphash};
 
 // The four words that a message is mixed into.
 #[derive(Clone, Copy)]
@@ -45,12 +45,14 @@ impl State {
         State { v0, v1, v2, v3 }
     }
 
+    #[tactic(auto, unfolding(crate::specs::Siphash::sip_round))]
     fn round(self) -> State
         ensures { result ≡ sip_round self }
     {
         self.first_half().second_half()
     }
 
+    #[tactic(auto, unfolding(crate::specs::Siphash::compressed))]
     fn compress(self, word: u64) -> State
         ensures { result ≡ compressed self word }
     {
@@ -61,6 +63,7 @@ impl State {
         s
     }
 
+    #[tactic(auto, unfolding(crate::specs::Siphash::finished))]
     fn finish(self) -> u64
         ensures { result ≡ finished self }
     {
@@ -71,37 +74,33 @@ impl State {
     }
 }
 
-// Some bytes from a place on as a number, low byte first.
-fn gather(bytes: &[u8], at: usize, count: usize) -> u64
-    requires { (at + count ≤ length bytes.now) × (count ≤ 8) }
-    ensures value { result ≡ low count bytes.now at }
-    ensures bound { count ≤ 7 → result < 2 ^ 56 }
+// A word of a message, low byte first.
+#[tactic(auto, using(crate::proofs::Words::word_is))]
+fn word(bytes: &[u8; 8]) -> u64
+    ensures { result ≡ low 8 bytes.now 0 }
 {
-    let mut word = 0;
-    for i in (0..count).rev() {
-        let byte = bytes[at + i] as u64;
-        word = word * 256 + byte;
-    }
-    word
+    u64::from_le_bytes(*bytes)
 }
 
-// The bytes past the last whole word, with the length modulo 256 in the top byte.
-fn last_word(bytes: &[u8]) -> u64
-    ensures { result ≡ last_word bytes.now }
+// The bytes past the last whole word, with the message's length modulo 256 in the top byte.
+fn last_word(rest: &[u8], total: usize) -> u64
+    requires { length rest.now ≤ 7 }
+    ensures { result ≡ low 7 rest.now 0 + total % 256 * 2 ^ 56 }
 {
-    let length = bytes.len();
-    gather(bytes, 8 * (length / 8), length % 8) + (length % 256) as u64 * 0x100_0000_0000_0000
+    let mut bytes = [0; 8];
+    bytes[..rest.len()].copy_from_slice(rest);
+    bytes[7] = (total % 256) as u8;
+    word(&bytes)
 }
 
 pub fn siphash(key: &[u8; 16], bytes: &[u8]) -> u64
     ensures { result ≡ siphash key.now bytes.now }
 {
-    let k0 = gather(key, 0, 8);
-    let k1 = gather(key, 8, 8);
-    let mut s = State::keyed(k0, k1);
-    for n in 0..bytes.len() / 8 {
-        let word = gather(bytes, 8 * n, 8);
-        s = s.compress(word);
+    let (keys, _) = key.as_chunks::<8>();
+    let mut s = State::keyed(word(&keys[0]), word(&keys[1]));
+    let (words, rest) = bytes.as_chunks::<8>();
+    for next in words {
+        s = s.compress(word(next));
     }
-    s.compress(last_word(bytes)).finish()
+    s.compress(last_word(rest, bytes.len())).finish()
 }

@@ -1,48 +1,33 @@
-// The sealer of a group in the field: SipHash-2-4 under one key of sixteen bytes for each replica.
+// The tags of a group in the field: SipHash-2-4 under one key of sixteen bytes for each replica.
 ghost use Rattle.std.specs.Prelude.{◌≡◌, ◌<◌, ◌≤◌, MatchResult};
-ghost use Rattle.refusal.specs.declared.sealers.SealerFault.TheVariants.{Number};
-ghost use Rattle.sealer.specs.Sealers.{sip_genuine};
-ghost use Rattle.std.proofs.Common.{rules};
+ghost use Rattle.refusal.specs.declared.sealers.SealerFault.TheVariants as fault;
+ghost use Rattle.sealer.specs.Sealers.{sip_tag};
 
 use super::hashes::siphash;
-use super::sealers::Sealer;
+use super::numbers::Number;
+use super::tags::{TagSealer, Tags};
 use refusal::SealerFault;
 
 #[derive(Drop)]
-pub struct SipSealer {
-    number: u8,
+pub struct SipTags {
     keys: [[u8; 16]; 4],
-    ghost known: { number < 4 },
 }
 
-impl SipSealer {
+pub type SipSealer = TagSealer<SipTags>;
+
+impl TagSealer<SipTags> {
     // The sealer of one replica. All of a group, and its clients, hold the same four keys.
     pub fn new(number: u8, keys: [[u8; 16]; 4]) -> Result<SipSealer, SealerFault>
-        ensures { MatchResult result (λ s. (number < 4) × (s.number ≡ number) × (s.keys ≡ keys)) (λ e. (4 ≤ number) × (e ≡ Number)) }
+        ensures { MatchResult result (λ s. (number < 4) × (s.number.value ≡ number) × (s.tags.keys ≡ keys)) (λ e. (4 ≤ number) × (e ≡ fault.Number)) }
     {
-        if number > 3 {
-            return Err(SealerFault::Number);
-        }
-        Ok(SipSealer { number, keys })
+        TagSealer::with_tags(number, SipTags { keys })
     }
 }
 
-impl Sealer for SipSealer {
-    ghost own = { λ s. s.number };
+impl Tags for SipTags {
+    ghost tagged = { λ t. sip_tag t.keys };
 
-    ghost genuine = { λ s. sip_genuine s.keys };
-
-    ghost below = { Prim.search rules };
-
-    fn number(&self) -> u8 {
-        self.number
-    }
-
-    fn seal(&mut self, body: &[u8; 22]) -> u64 {
-        siphash(&self.keys[self.number as usize], body)
-    }
-
-    fn check(&self, signer: u8, body: &[u8; 22], tag: u64) -> bool {
-        signer <= 3 && tag == siphash(&self.keys[signer as usize], body)
+    fn tag(&self, signer: Number, body: &[u8; 22]) -> u64 {
+        siphash(&self.keys[usize::from(signer.value())], body)
     }
 }

@@ -5,11 +5,15 @@
 mod benches;
 mod hashes;
 mod keyed;
+mod numbers;
 mod proofs;
 mod sealers;
+mod tags;
 
-pub use benches::BenchSealer;
+pub use benches::{BenchSealer, BenchTags};
 pub use hashes::siphash;
-pub use keyed::SipSealer;
+pub use keyed::{SipSealer, SipTags};
+pub use numbers::Number;
 pub use proofs::open_proof;
 pub use sealers::{Sealer, open, sign};
+pub use tags::{TagSealer, Tags};

@@ -1,10 +1,10 @@
 // What a sealer is, and what any sealer serves for: to sign a statement, and to open a packet.
-ghost use Rattle.std.specs.Prelude.{◌≡◌, ℕ, ◌^◌, ◌<◌, Bool, true, List, length};
+ghost use Rattle.std.specs.Prelude.{◌≡◌, ℕ, ◌<◌, Bool, true, List};
 ghost use Rattle.packet.specs.Packets.{seen};
 ghost use Rattle.sealer.specs.Laws.{OneOpening, Opening};
 ghost use Rattle.sealer.specs.Seals.{Meaning, Signed, check_seals, open_packet};
 
-use packet::{Packet, Reader, Sealed, Statement, read_packet};
+use packet::{Packet, Parts, Reader, Sealed, Statement, read_packet};
 use refusal::SealerFault;
 
 // One replica's end of the group's seals. Its meaning is which signer, 22 bytes and tag are genuine.
@@ -31,6 +31,7 @@ pub trait Sealer {
 }
 
 // The statement under the sealer's own number, sealed.
+#[tactic(auto, unfolding(packet::specs::Statements::body))]
 pub fn sign<S: Sealer>(sealer: &mut S, statement: Statement) -> Statement
     ensures signed { Signed (S.genuine sealer.old) (S.own sealer.old) statement result }
     ensures number { S.own sealer.new ≡ S.own sealer.old }
@@ -44,12 +45,11 @@ pub fn sign<S: Sealer>(sealer: &mut S, statement: Statement) -> Statement
 }
 
 // Checks every seal, and refuses the first that is not genuine.
-pub(crate) fn check_seals<S: Sealer>(sealer: &S, parts: &[[u8; 30]]) -> Result<(), SealerFault>
-    requires { length parts.now < 2 ^ 32 }
-    ensures { result ≡ check_seals (S.genuine sealer.now) 0 parts.now }
+pub(crate) fn check_seals<S: Sealer>(sealer: &S, parts: &Parts<'_>) -> Result<(), SealerFault>
+    ensures { result ≡ check_seals (S.genuine sealer.now) 0 parts.now.bytes.now }
 {
-    for i in 0..parts.len() {
-        let part = Sealed::of(&parts[i]);
+    for (i, part) in parts.bytes.iter().enumerate() {
+        let part = Sealed::from(part);
         if !sealer.check(part.signer, part.body, part.seal) {
             return Err(SealerFault::Seal { place: i as u32 });
         }
@@ -58,6 +58,7 @@ pub(crate) fn check_seals<S: Sealer>(sealer: &S, parts: &[[u8; 30]]) -> Result<(
 }
 
 // The packet in these bytes, if it is one for this reader and every seal in it is genuine.
+#[tactic(auto, using(crate::proofs::Openings::one_opening, crate::proofs::Openings::opening), unfolding(crate::specs::Seals::open_packet))]
 pub fn open<'a, S: Sealer>(
     sealer: &S,
     reader: Reader,
@@ -68,6 +69,6 @@ pub fn open<'a, S: Sealer>(
     ensures law { OneOpening (S.genuine sealer.now) }
 {
     let packet = read_packet(reader, bytes)?;
-    check_seals(sealer, packet.parts)?;
+    check_seals(sealer, &packet.parts)?;
     Ok(packet)
 }

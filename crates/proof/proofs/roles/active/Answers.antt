@@ -1,8 +1,5 @@
-use Rattle.std.proofs.Common.{rules}
-use Rattle.proof.specs.Roles.{active}
 use Rattle.proof.proofs.Actives.{active_quorum}
 use Rattle.proof.proofs.roles.active.Goals as goal
 
-pub returns : goal.returns
-unfolding active
-returns c = record { exact = search rules; law = active_quorum }
+pub returns-clause-law : goal.returns-clause-law
+returns-clause-law c = active_quorum

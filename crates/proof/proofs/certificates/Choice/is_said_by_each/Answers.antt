@@ -1,20 +1,17 @@
-use Rattle.std.proofs.Common.{◌+◌, add_assoc, arith, rules}
-use Rattle.std.proofs.lemmas.List.{at_drop_more, at_drop_all}
-use Rattle.proof.specs.Certificates.{each_says}
+use Rattle.std.proofs.Common.{◌∙◌, rules, tests}
+use Rattle.std.proofs.lemmas.Iterator.{YieldsList-from_slice, YieldsList-from_zip}
+use Rattle.std.proofs.lemmas.Iterator.Search.{all_from_yields_List}
+use Rattle.proof.proofs.Shifted.{each_paired, each_short, said_by}
 use Rattle.proof.proofs.certificates.Choice.is_said_by_each.Goals as goal
 
-pub returns-then-not-is_said : goal.returns-then-not-is_said
-returns-then-not-is_said c =
-    let s = at_drop_more (each_says c.args.kind c.args.self.view.0 c.args.self.slot.0 c.args.self.command c.args.parts.now (c.args.place + c.loop-i.i)) c.args.signers.now c.loop-i.i 0 (omega arith) in
-    search rules
+pub returns-then-enough-clause-exact : goal.returns-then-enough-clause-exact
+returns-then-enough-clause-exact c =
+    let s = c.args.self in
+    all_from_yields_List (said_by c.args.kind s.view.0 s.slot.0 s.command) c.all.new.self _ c.all.result c.all.ensures.ran (YieldsList-from_zip (YieldsList-from_slice c.args.signers.now cc) (YieldsList-from_slice c.args.parts.now cc)) (λ x b q k. search (rules, tests))
+    ∙ each_paired c.args.kind s.view.0 s.slot.0 s.command c.args.signers.now c.args.parts.now (search rules)
 
-pub loop-i-preserved : goal.loop-i-preserved
-loop-i-preserved c =
-    let s = at_drop_more (each_says c.args.kind c.args.self.view.0 c.args.self.slot.0 c.args.self.command c.args.parts.now (c.args.place + c.loop-i.i)) c.args.signers.now c.loop-i.i 0 (omega arith) in
-    let p = add_assoc c.args.place c.loop-i.i 1 in
-    search rules
-
-pub returns : goal.returns
-returns c =
-    let s = at_drop_all (each_says c.args.kind c.args.self.view.0 c.args.self.slot.0 c.args.self.command c.args.parts.now (c.args.place + c.loop-i.i)) c.args.signers.now c.loop-i.i (omega arith) in
+pub returns-else-enough-clause-exact : goal.returns-else-enough-clause-exact
+returns-else-enough-clause-exact c =
+    let s = c.args.self in
+    let e = each_short c.args.kind s.view.0 s.slot.0 s.command c.args.signers.now c.args.parts.now (search rules) in
     search rules

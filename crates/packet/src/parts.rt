@@ -1,0 +1,41 @@
+// The lent bytes of a packet's or a proof's statements.
+ghost use Rattle.std.specs.Prelude.{◌≡◌, ◌≤◌, length, drop};
+ghost use Rattle.packet.specs.Parts.{check_statements, statement_at};
+
+use super::statements::Statement;
+use refusal::PacketFault;
+
+// Whole statements, one behind the other. No packet and no proof has more than thirteen.
+#[derive(Clone, Copy)]
+pub struct Parts<'a> {
+    pub bytes: &'a [[u8; 30]],
+    ghost few: { length bytes.now ≤ 13 },
+}
+
+impl Parts<'_> {
+    // How many statements there are.
+    pub fn count(&self) -> usize
+        ensures { result ≡ length self.now.bytes.now }
+    {
+        self.bytes.len()
+    }
+
+    // The statement at a place, counted from 0; none past the last.
+    #[tactic(auto, using(std::proofs::lemmas::List::get_or_past), unfolding(crate::specs::Statements::decode))]
+    pub fn statement(&self, place: usize) -> Option<Statement>
+        ensures { result ≡ statement_at self.now.bytes.now place }
+    {
+        Statement::decode(self.bytes.get(place)?)
+    }
+
+    // Reads the statements from a place on, and refuses the first that is none.
+    pub(crate) fn check_from(&self, first: usize) -> Result<(), PacketFault>
+        requires { first ≤ length self.now.bytes.now }
+        ensures { result ≡ check_statements first (drop first self.now.bytes.now) }
+    {
+        for (i, part) in self.bytes[first..].iter().enumerate() {
+            Statement::read(part, (first + i) as u32)?;
+        }
+        Ok(())
+    }
+}

@@ -1,0 +1,57 @@
+// A sealer whose seal is a tag of the bytes under the signer's number, whatever the tags are made by.
+ghost use Rattle.std.specs.Prelude.{◌≡◌, ℕ, ◌<◌, ◌≤◌, List, MatchResult};
+ghost use Rattle.refusal.specs.declared.sealers.SealerFault.TheVariants as fault;
+ghost use Rattle.sealer.specs.Sealers.{tag_genuine};
+ghost use Rattle.std.proofs.Common.{rules};
+
+use super::numbers::Number;
+use super::sealers::Sealer;
+use refusal::SealerFault;
+
+// What makes a group's tags. Replicas and clients of one group make the same.
+pub trait Tags: Drop {
+    // The tag of some bytes under a replica's number.
+    ghost tagged: { Self → ℕ → List ℕ → ℕ };
+
+    fn tag(&self, signer: Number, body: &[u8; 22]) -> u64
+        ensures { result ≡ tagged self.now signer.value body.now };
+}
+
+#[derive(Drop)]
+pub struct TagSealer<T: Tags> {
+    number: Number,
+    tags: T,
+}
+
+impl<T: Tags> TagSealer<T> {
+    // The sealer of one replica, with the tags of its group.
+    pub fn with_tags(number: u8, tags: T) -> Result<TagSealer<T>, SealerFault>
+        ensures { MatchResult result (λ s. (number < 4) × (s.number.value ≡ number) × (s.tags ≡ tags)) (λ e. (4 ≤ number) × (e ≡ fault.Number)) }
+    {
+        let number = Number::try_from(number)?;
+        Ok(TagSealer { number, tags })
+    }
+}
+
+impl<T: Tags> Sealer for TagSealer<T> {
+    ghost own = { λ s. s.number.value };
+
+    ghost genuine = { λ s. tag_genuine (T.tagged s.tags) };
+
+    ghost below = { Prim.search rules };
+
+    fn number(&self) -> u8 {
+        self.number.value()
+    }
+
+    fn seal(&mut self, body: &[u8; 22]) -> u64 {
+        self.tags.tag(self.number, body)
+    }
+
+    fn check(&self, signer: u8, body: &[u8; 22], tag: u64) -> bool {
+        match Number::try_from(signer) {
+            Ok(signer) => tag == self.tags.tag(signer, body),
+            Err(_) => false,
+        }
+    }
+}
