@@ -1,5 +1,5 @@
 // The booking service: thirty-two places that are booked and freed.
-ghost use Rattle.std.specs.Prelude.{◌≡◌, ◌<◌, if◌then◌else◌};
+ghost use Rattle.std.specs.Prelude.{◌≡◌, ◌<◌, ◌==◌, slice_index};
 ghost use Rattle.service.specs.Bookings.{BookingLaws, Holders, booking_mark, booking_next, booking_result, first_holders, holder_at, passed, request_of};
 ghost use Rattle.service.specs.Commands.{read_as};
 
@@ -78,7 +78,7 @@ impl Booking {
     // Gives a place from one holder to another, if that one holds it, and answers whether it did.
     fn pass(&mut self, place: u8, from: u8, to: u8) -> bool
         requires { place < 32 }
-        ensures value { (if result then 1 else 0) ≡ (passed self.old.holders place from to).answer }
+        ensures value { result ≡ (slice_index self.old.holders place == from) }
         ensures after { self.new.holders ≡ (passed self.old.holders place from to).after }
     {
         let holder = &mut self.holders[usize::from(place)];
