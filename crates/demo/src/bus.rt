@@ -9,33 +9,27 @@ pub const KEYS: [[u8; 16]; 4] = [[0xA0; 16], [0xA1; 16], [0xA2; 16], [0xA3; 16]]
 // The keys of another group.
 pub const OTHER_KEYS: [[u8; 16]; 4] = [[0xB0; 16], [0xB1; 16], [0xB2; 16], [0xB3; 16]];
 
-// The bytes of a replica's answer for a slot, sealed.
-pub fn answer(
-    number: u8,
-    keys: [[u8; 16]; 4],
-    slot: Slot,
-    outcome: u64,
-) -> Result<[u8; 30], SealerFault> {
-    let mut replica = SipSealer::new(number, keys)?;
-    let unsealed = Statement {
-        kind: Kind::Answer,
-        signer: 0,
-        view: View(0),
-        slot,
-        earlier: View(0),
-        command: outcome,
-        seal: 0,
-    };
-    Ok(sign(&mut replica, unsealed).write())
+// What a replica answers for a slot.
+#[derive(Clone, Copy)]
+pub struct Answer {
+    pub replica: u8,
+    pub slot: Slot,
+    pub outcome: u64,
 }
 
-// Shows bytes as they are on the wire.
-pub fn show(rt: &impl Print, bytes: &[u8]) -> anyhow::Result<()> {
-    print!(rt; "  on the wire:")?;
-    for byte in bytes {
-        let byte = *byte;
-        print!(rt; " {byte:02x}")?;
+impl Answer {
+    // The bytes of the answer, sealed under these keys.
+    pub fn sealed(self, keys: [[u8; 16]; 4]) -> Result<[u8; 30], SealerFault> {
+        let mut sealer = SipSealer::new(self.replica, keys)?;
+        let unsealed = Statement {
+            kind: Kind::Answer,
+            signer: 0,
+            view: View(0),
+            slot: self.slot,
+            earlier: View(0),
+            command: self.outcome,
+            seal: 0,
+        };
+        Ok(sign(&mut sealer, unsealed).write())
     }
-    println!(rt)?;
-    Ok(())
 }

@@ -1,11 +1,12 @@
 // Three replicas carry out the same commands on services of their own. One of them lies to the client, whose collector closes
 // on the two equal answers.
-use crate::bus::{KEYS, answer};
-use anyhow::anyhow;
-use collector::{Unclosed, Waiting};
+use crate::bus::Answer;
+use crate::client::Client;
+use anyhow::{bail, ensure};
+use collector::Waiting;
 use packet::Slot;
-use sealer::SipSealer;
 use service::{Booking, Recorder, Service};
+use std::array;
 
 // One sample with reading 7 on channel 15.
 const SAMPLE: u64 = 0x530F_0000_0000_0007;
@@ -13,98 +14,57 @@ const SAMPLE: u64 = 0x530F_0000_0000_0007;
 // Place 30 booked for holder 5.
 const BOOKING: u64 = 0x421E_0500_0000_0000;
 
-// The client hands an answer to its collector.
-fn hand_in(
-    rt: &impl Print,
-    client: &SipSealer,
-    waiting: &mut Waiting,
-    bytes: &[u8],
-) -> anyhow::Result<()> {
-    match waiting.add(client, bytes) {
-        Ok(()) => println!(rt; "  the collector keeps it")?,
-        Err(fault) => println!(rt; "  the collector refuses it: {fault}")?,
-    }
-    Ok(())
-}
-
-// The client tries to close its collector, and has it back if that was too early.
-fn try_close(rt: &impl Print, waiting: Waiting) -> anyhow::Result<Option<Waiting>> {
-    match waiting.close() {
-        Ok(closed) => {
-            let slot = closed.slot().0;
-            let result = closed.result();
-            println!(rt; "  closed: the result of slot {slot} is {result}")?;
-            Ok(None)
-        }
-        Err(Unclosed { waiting, fault }) => {
-            println!(rt; "  not closed: {fault}")?;
-            Ok(Some(waiting))
-        }
-    }
-}
-
-// Three replicas' services carry out a command that each was handed as the command of the slot.
-fn carried_out<V: Service>(services: &mut [V; 3], command: u64) -> [u64; 3] {
-    let first = services[0].apply(command);
-    let second = services[1].apply(command);
-    let third = services[2].apply(command);
-    [first, second, third]
-}
-
-// A replica's answer goes over the bus to the collector.
-fn send(
-    rt: &impl Print,
-    client: &SipSealer,
-    waiting: &mut Waiting,
-    slot: Slot,
-    number: u8,
-    outcome: u64,
-) -> anyhow::Result<()> {
-    println!(rt; "replica {number} answers {outcome} for slot {}", slot.0)?;
-    hand_in(rt, client, waiting, &answer(number, KEYS, slot, outcome)?)
+// Three replicas' services carry out the command of a slot, and each replica has its answer.
+fn answers<V: Service>(services: &mut [V; 3], slot: Slot, command: u64) -> [Answer; 3] {
+    array::from_fn(|i| Answer {
+        replica: i as u8,
+        slot,
+        outcome: services[i].apply(command),
+    })
 }
 
 // Three replicas answer, and the second lies: the collector has its result once the third has answered.
-fn collect(rt: &impl Print, slot: Slot, results: [u64; 3]) -> anyhow::Result<()> {
-    let client = SipSealer::new(0, KEYS)?;
-    let mut waiting = Waiting::new(slot)?;
-    send(rt, &client, &mut waiting, slot, 0, results[0])?;
-    send(rt, &client, &mut waiting, slot, 0, results[0])?;
-    send(
-        rt,
-        &client,
-        &mut waiting,
-        slot,
-        1,
-        results[1].wrapping_add(10),
-    )?;
-    let Some(mut waiting) = try_close(rt, waiting)? else {
-        return Err(anyhow!("closed on two unlike answers"));
+fn collect(rt: &impl Print, answers: [Answer; 3]) -> anyhow::Result<()> {
+    let client = Client::new(rt)?;
+    let [first, second, third] = answers;
+    let mut waiting = Waiting::new(first.slot)?;
+    let lie = Answer {
+        outcome: second.outcome.wrapping_add(10),
+        ..second
     };
-    send(rt, &client, &mut waiting, slot, 1, results[1])?;
-    send(rt, &client, &mut waiting, Slot(99), 2, results[2])?;
-    send(rt, &client, &mut waiting, slot, 2, results[2])?;
-    match try_close(rt, waiting)? {
-        None => Ok(()),
-        Some(_) => Err(anyhow!("not closed on two equal answers")),
-    }
+    let astray = Answer {
+        slot: Slot(99),
+        ..third
+    };
+    client.hand_in(&mut waiting, first)?;
+    client.hand_in(&mut waiting, first)?;
+    client.hand_in(&mut waiting, lie)?;
+    let Some(mut waiting) = client.try_close(waiting)? else {
+        bail!("closed on two unlike answers");
+    };
+    client.hand_in(&mut waiting, second)?;
+    client.hand_in(&mut waiting, astray)?;
+    client.hand_in(&mut waiting, third)?;
+    ensure!(
+        client.try_close(waiting)?.is_none(),
+        "not closed on two equal answers"
+    );
+    Ok(())
 }
 
 pub fn collect_answers(rt: &impl Print) -> anyhow::Result<()> {
     println!(rt; "2. Three recorders take a sample as slot 1; replica 1 lies about it.")?;
     let mut recorders = [Recorder::new(), Recorder::new(), Recorder::new()];
-    let samples = carried_out(&mut recorders, SAMPLE);
-    let mark = recorders[0].mark();
-    println!(rt; "each recorder's mark is now {mark}")?;
-    collect(rt, Slot(1), samples)?;
+    let samples = answers(&mut recorders, Slot(1), SAMPLE);
+    println!(rt; "each recorder's mark is now {}", recorders[0].mark())?;
+    collect(rt, samples)?;
 
     println!(rt)?;
     println!(rt;
         "3. Three booking services book place 30 for holder 5 as slot 2; replica 1 lies again."
     )?;
     let mut bookings = [Booking::new(), Booking::new(), Booking::new()];
-    let booked = carried_out(&mut bookings, BOOKING);
-    let mark = bookings[0].mark();
-    println!(rt; "each booking service's mark is now {mark}")?;
-    collect(rt, Slot(2), booked)
+    let booked = answers(&mut bookings, Slot(2), BOOKING);
+    println!(rt; "each booking service's mark is now {}", bookings[0].mark())?;
+    collect(rt, booked)
 }

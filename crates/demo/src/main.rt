@@ -2,6 +2,7 @@
 #![tactic(auto)]
 
 mod bus;
+mod client;
 mod collecting;
 mod reading;
 

@@ -1,36 +1,23 @@
 -- How the holders of places change over a run of commands.
-use Rattle.std.proofs.Common.{◌≡◌, ℕ, eqb, ◌≢◌, ◌⊎◌, List, [], ◌∷◌, length, get_or, set, Some, None, Option, sym, refl, ap, ◌∙◌, inl, inr}
+use Rattle.std.proofs.Common.{◌≡◌, ℕ, ◌≢◌, ◌⊎◌, List, [], ◌∷◌, get_or, Some, None, Option, sym, refl, ap, ◌∙◌, inl, inr, arith}
 use Rattle.std.specs.List.{AllByRecursion}
-use Rattle.std.proofs.lemmas.List.{get_or-set_same, get_or-set_other, get_or_past, get_or-replicate, set_past}
-use Rattle.std.proofs.lemmas.Bool.{cases_eq, cases_lt, cond_both, eqb-true, eqb-false}
+use Rattle.std.proofs.lemmas.List.{get_or_past, get_or-replicate}
+use Rattle.std.proofs.lemmas.Grind.{common_steps}
+use Rattle.std.proofs.lemmas.Bool.{cases_eq, cases_lt}
 use Rattle.service.specs.Bookings.{BookingLaws, HeldSince, Holders, booking_next, by_request, first_holders, passed, request_of}
-use Rattle.service.specs.Outcomes.{Outcome, run}
+use Rattle.service.specs.Outcomes.{run}
 use Rattle.service.specs.declared.bookings.Request.{Request}
 use Rattle.service.specs.declared.bookings.Request.TheVariants.{Book, Free}
 
 abbrev at : Holders → ℕ → ℕ
 at holders place = get_or holders place 0
 
-passed_cases : (holders : Holders) (place from to : ℕ) (P : Holders → Type 0) → (at holders place ≡ from → P (set holders place to)) → ((at holders place ≡ from → ⊥) → P holders) → P (passed holders place from to).after
-passed_cases holders place from to P theirs other =
-    cond_both (eqb (at holders place) from) _ _ (λ (o : Outcome Holders). P o.after) (λ e. theirs (eqb-true _ _ e)) (λ e. other (eqb-false _ _ e))
-
--- a place that is written holds what was written, if there is such a place
-written : (holders : Holders) (place to p : ℕ) → at (set holders place to) p ≢ at holders p → (place ≡ p) × (at (set holders place to) p ≡ to)
-written holders place to p changed = elim (cases_eq place p) [
-  | inl same ↦ elim (cases_lt place (length holders)) [
-    | inl within ↦ (same, rw (sym same) (get_or-set_same holders place to 0 within))
-    | inr past ↦ absurd (changed (ap (λ hs. at hs p) (set_past holders place to past)))
-  ]
-  | inr other ↦ absurd (changed (get_or-set_other holders place p to 0 (λ e. other (sym e))))
-]
-
 -- a place whose holder changed was the one passed on, by its holder
 passed_changes : (holders : Holders) (place from to p : ℕ) → at (passed holders place from to).after p ≢ at holders p → (place ≡ p) × (at holders p ≡ from) × (at (passed holders place from to).after p ≡ to)
-passed_changes holders place from to p =
-    passed_cases holders place from to (λ after. at after p ≢ at holders p → (place ≡ p) × (at holders p ≡ from) × (at after p ≡ to))
-    (λ theirs changed. let w = written holders place to p changed in (w.0, rw w.0 at theirs, w.1))
-    (λ _ changed. absurd (changed refl))
+passed_changes holders place from to p changed = elim (cases_eq (at holders place) from) [
+  | inl theirs ↦ grind (arith, common_steps)
+  | inr other ↦ grind (arith, common_steps)
+]
 
 abbrev Changes : Holders → Option Request → ℕ → Type 0
 Changes holders o p = ((at holders p ≡ 0) × (o ≡ Some (Book p (at (by_request holders o).after p)))) ⊎ ((at (by_request holders o).after p ≡ 0) × (o ≡ Some (Free p (at holders p))))
@@ -50,13 +37,7 @@ request_changes holders (Some (Free place holder)) p changed =
 
 -- a place that its holder frees is free
 frees : (holders : Holders) (place : ℕ) → at (passed holders place (at holders place) 0).after place ≡ 0
-frees holders place =
-    passed_cases holders place (at holders place) 0 (λ after. at after place ≡ 0)
-    (λ _. elim (cases_lt place (length holders)) [
-      | inl within ↦ get_or-set_same holders place 0 0 within
-      | inr past ↦ ap (λ hs. at hs place) (set_past holders place 0 past) ∙ get_or_past holders place 0 past
-    ])
-    (λ other. absurd (other refl))
+frees holders place = grind (arith, common_steps)
 
 freed_request : (holders : Holders) (o : Option Request) (place : ℕ) → o ≡ Some (Free place (at holders place)) → at (by_request holders o).after place ≡ 0
 freed_request holders o place asks = rw asks (frees holders place)

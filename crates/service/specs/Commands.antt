@@ -1,5 +1,6 @@
 -- The parts of a command: eight bytes as one number, high byte first.
-use Rattle.std.specs.Prelude.{ℕ, ◌/◌, ◌%◌, ◌^◌, Bool, true, false, Some, None, Option}
+use Rattle.std.specs.Prelude.{ℕ, ◌/◌, ◌%◌, ◌^◌, Bool, true, false, Some, None, Option, Result, ok_or}
+use Rattle.service.specs.declared.commands.UnknownCommand.{UnknownCommand}
 
 abbrev pub first_byte : ℕ → ℕ
 first_byte command = command / 2 ^ 56 % 256
@@ -14,3 +15,7 @@ third_byte command = command / 2 ^ 40 % 256
 abbrev pub given : {A : Type 0} → Bool → A → Option A
 given true a = Some a
 given false a = None
+
+-- what a service reads a command as, or the command itself where the service does not know it
+abbrev pub read_as : {A : Type 0} → (ℕ → Option A) → ℕ → Result A UnknownCommand
+read_as asked command = ok_or (asked command) (record { 0 = command })

@@ -1,9 +1,11 @@
 // The booking service: thirty-two places that are booked and freed.
-ghost use Rattle.std.specs.Prelude.{◌≡◌, ◌<◌};
+ghost use Rattle.std.specs.Prelude.{◌≡◌, ◌<◌, ◌==◌, slice_index};
 ghost use Rattle.service.specs.Bookings.{BookingLaws, Holders, booking_mark, booking_next, booking_result, first_holders, holder_at, passed, request_of};
+ghost use Rattle.service.specs.Commands.{read_as};
 
 use crate::REFUSED;
-use crate::marks::mark_with;
+use crate::commands::UnknownCommand;
+use crate::marks::mark_of;
 use crate::services::Service;
 
 // The first byte of a command that books a place.
@@ -15,34 +17,27 @@ const FREE: u8 = 0x46;
 // The holder of a free place.
 const NOBODY: u8 = 0;
 
-// The answer to a request that was not done.
-const NOT_DONE: u64 = 0;
-
-// The answer to a request that was done.
-const DONE: u64 = 1;
-
 // What a command asks for.
-#[derive(Clone, Copy)]
+#[derive(Clone, Copy, PartialEq, Eq, Debug)]
 pub enum Request {
     Book { place: u8, holder: u8 },
     Free { place: u8, holder: u8 },
 }
 
-impl Request {
-    // The request that a command states, if it states one.
-    pub fn parse(command: u64) -> Option<Request>
-        ensures { result ≡ request_of command }
-    {
+impl TryFrom<u64> for Request {
+    type Error = UnknownCommand;
+
+    ghost try_from_gives = { λ command r. r ≡ read_as request_of command };
+
+    fn try_from(command: u64) -> Result<Request, UnknownCommand> {
         match command.to_be_bytes() {
-            [BOOK, place @ 0..=31, holder @ 1..=255, 0, 0, 0, 0, 0] => Some(Request::Book {
-                place,
-                holder,
-            }),
-            [FREE, place @ 0..=31, holder @ 1..=255, 0, 0, 0, 0, 0] => Some(Request::Free {
-                place,
-                holder,
-            }),
-            _ => None,
+            [BOOK, place @ 0..=31, holder @ 1..=255, 0, 0, 0, 0, 0] => {
+                Ok(Request::Book { place, holder })
+            }
+            [FREE, place @ 0..=31, holder @ 1..=255, 0, 0, 0, 0, 0] => {
+                Ok(Request::Free { place, holder })
+            }
+            _ => Err(UnknownCommand(command)),
         }
     }
 }
@@ -56,11 +51,11 @@ pub struct Booking {
 
 impl Booking {
     // A booking service whose places are all free.
+    #[tactic(auto, using(crate::proofs::Places::booking_laws))]
     pub fn new() -> Booking
         ensures value { result.holders ≡ first_holders }
         ensures laws { BookingLaws }
     {
-        laws();
         Booking {
             holders: [NOBODY; 32],
         }
@@ -77,24 +72,21 @@ impl Booking {
     pub fn holder(&self, place: u8) -> Option<u8>
         ensures { result ≡ holder_at self.now.holders place }
     {
-        if place < 32 {
-            Some(self.holders[place as usize])
-        } else {
-            None
-        }
+        self.holders.get(usize::from(place)).copied()
     }
 
-    // Gives a place from one holder to another, if that one holds it.
-    fn pass(&mut self, place: u8, from: u8, to: u8) -> u64
+    // Gives a place from one holder to another, if that one holds it, and answers whether it did.
+    fn pass(&mut self, place: u8, from: u8, to: u8) -> bool
         requires { place < 32 }
-        ensures value { result ≡ (passed self.old.holders place from to).answer }
+        ensures value { result ≡ (slice_index self.old.holders place == from) }
         ensures after { self.new.holders ≡ (passed self.old.holders place from to).after }
     {
-        if self.holders[place as usize] != from {
-            return NOT_DONE;
+        let holder = &mut self.holders[usize::from(place)];
+        if *holder != from {
+            return false;
         }
-        self.holders[place as usize] = to;
-        DONE
+        *holder = to;
+        true
     }
 }
 
@@ -110,30 +102,15 @@ impl Service for Booking {
     ghost marked = { booking_mark };
 
     fn apply(&mut self, command: u64) -> u64 {
-        match Request::parse(command) {
-            Some(Request::Book { place, holder }) => self.pass(place, NOBODY, holder),
-            Some(Request::Free { place, holder }) => self.pass(place, holder, NOBODY),
-            None => REFUSED,
-        }
+        let done = match Request::try_from(command) {
+            Ok(Request::Book { place, holder }) => self.pass(place, NOBODY, holder),
+            Ok(Request::Free { place, holder }) => self.pass(place, holder, NOBODY),
+            Err(_) => return REFUSED,
+        };
+        u64::from(done)
     }
 
     fn mark(&self) -> u64 {
         mark_of(&self.holders)
     }
-}
-
-// Promises what holds of every run of commands, and does nothing: `new` calls it to promise the same.
-fn laws()
-    ensures { BookingLaws }
-{}
-
-// The mark over all places in order.
-fn mark_of(holders: &[u8]) -> u64
-    ensures { result ≡ booking_mark holders.now }
-{
-    let mut mark = 0;
-    for holder in holders {
-        mark = mark_with(mark, *holder as u64);
-    }
-    mark
 }

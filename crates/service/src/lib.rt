@@ -5,11 +5,13 @@
 #![tactic(auto)]
 
 mod bookings;
+mod commands;
 mod marks;
 mod recorders;
 mod services;
 
 pub use bookings::{Booking, Request};
+pub use commands::UnknownCommand;
 pub use recorders::{Channel, Recorder, Sample};
 pub use services::{Service, apply_all};
 

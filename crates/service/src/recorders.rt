@@ -1,42 +1,54 @@
 // The recorder: sixteen channels that take samples.
 ghost use Rattle.std.specs.Prelude.{◌≡◌, ◌<◌};
-ghost use Rattle.service.specs.Recorders.{Channels, RecorderLaws, channel_at, first_channels, recorder_mark, recorder_next, recorder_result, sample_of, sampled};
+ghost use Rattle.service.specs.Commands.{read_as};
+ghost use Rattle.service.specs.Recorders.{Channels, RecorderLaws, channel_at, first_channels, mark_with_channel, recorder_mark, recorder_next, recorder_result, sample_of, sampled};
 
 use crate::REFUSED;
-use crate::marks::mark_with;
+use crate::commands::UnknownCommand;
+use crate::marks::{Marked, mark_of, mark_with};
 use crate::services::Service;
 
 // The first byte of a sample's command.
 const SAMPLE: u8 = 0x53;
 
 // A sample, as a command states it.
-#[derive(Clone, Copy)]
+#[derive(Clone, Copy, PartialEq, Eq, Debug)]
 pub struct Sample {
     pub channel: u8,
     pub reading: u32,
 }
 
-impl Sample {
-    // The sample that a command states, if it states one.
-    pub fn parse(command: u64) -> Option<Sample>
-        ensures { result ≡ sample_of command }
-    {
+impl TryFrom<u64> for Sample {
+    type Error = UnknownCommand;
+
+    ghost try_from_gives = { λ command r. r ≡ read_as sample_of command };
+
+    fn try_from(command: u64) -> Result<Sample, UnknownCommand> {
         match command.to_be_bytes() {
-            [SAMPLE, channel @ 0..=15, 0, 0, a, b, c, d] => Some(Sample {
+            [SAMPLE, channel @ 0..=15, 0, 0, a, b, c, d] => Ok(Sample {
                 channel,
                 reading: u32::from_be_bytes([a, b, c, d]),
             }),
-            _ => None,
+            _ => Err(UnknownCommand(command)),
         }
     }
 }
 
 // How many samples a channel has taken, and the reading of the last one.
 #[repr(C)]
-#[derive(Clone, Copy)]
+#[derive(Clone, Copy, PartialEq, Eq, Debug)]
 pub struct Channel {
     pub samples: u32,
     pub latest: u32,
+}
+
+impl Marked for Channel {
+    ghost add_to = { mark_with_channel };
+
+    fn add_to(&self, mark: u64) -> u64 {
+        let mark = mark_with(mark, u64::from(self.samples));
+        mark_with(mark, u64::from(self.latest))
+    }
 }
 
 // The state of a recorder is its channels, in order.
@@ -48,11 +60,11 @@ pub struct Recorder {
 
 impl Recorder {
     // A recorder that has taken no sample.
+    #[tactic(auto, using(crate::proofs::Samples::recorder_laws))]
     pub fn new() -> Recorder
         ensures value { result.channels ≡ first_channels }
         ensures laws { RecorderLaws }
     {
-        laws();
         Recorder {
             channels: [Channel {
                 samples: 0,
@@ -72,11 +84,7 @@ impl Recorder {
     pub fn channel(&self, number: u8) -> Option<Channel>
         ensures { result ≡ channel_at self.now.channels number }
     {
-        if number < 16 {
-            Some(self.channels[number as usize])
-        } else {
-            None
-        }
+        self.channels.get(usize::from(number)).copied()
     }
 
     // Takes a sample and answers the channel's new number, unless the channel is full.
@@ -85,14 +93,15 @@ impl Recorder {
         ensures value { result ≡ (sampled self.old.channels sample).answer }
         ensures after { self.new.channels ≡ (sampled self.old.channels sample).after }
     {
-        let at = sample.channel as usize;
-        if self.channels[at].samples == u32::MAX {
+        let channel = &mut self.channels[usize::from(sample.channel)];
+        let Some(samples) = channel.samples.checked_add(1) else {
             return REFUSED;
-        }
-        let channel = &mut self.channels[at];
-        channel.samples += 1;
-        channel.latest = sample.reading;
-        channel.samples as u64
+        };
+        *channel = Channel {
+            samples,
+            latest: sample.reading,
+        };
+        u64::from(samples)
     }
 }
 
@@ -108,30 +117,13 @@ impl Service for Recorder {
     ghost marked = { recorder_mark };
 
     fn apply(&mut self, command: u64) -> u64 {
-        match Sample::parse(command) {
-            Some(sample) => self.take(sample),
-            None => REFUSED,
+        match Sample::try_from(command) {
+            Ok(sample) => self.take(sample),
+            Err(_) => REFUSED,
         }
     }
 
     fn mark(&self) -> u64 {
         mark_of(&self.channels)
     }
-}
-
-// Promises what holds of every run of commands, and does nothing: `new` calls it to promise the same.
-fn laws()
-    ensures { RecorderLaws }
-{}
-
-// The mark over all channels in order.
-fn mark_of(channels: &[Channel]) -> u64
-    ensures { result ≡ recorder_mark channels.now }
-{
-    let mut mark = 0;
-    for channel in channels {
-        mark = mark_with(mark, channel.samples as u64);
-        mark = mark_with(mark, channel.latest as u64);
-    }
-    mark
 }

@@ -33,7 +33,7 @@ pub trait Service {
 pub fn apply_all<S: Service>(service: &mut S, commands: &[u64])
     ensures { S.state service.new ≡ run S.next (S.state service.old) commands.now }
 {
-    for command in commands {
-        service.apply(*command);
+    for &command in commands {
+        service.apply(command);
     }
 }

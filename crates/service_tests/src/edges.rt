@@ -1,16 +1,16 @@
 // The services at their edges: each line of a table is a command and the answer to it.
-use service::{Booking, Channel, REFUSED, Recorder, Service, apply_all};
+use service::{Booking, Channel, REFUSED, Recorder, Service, UnknownCommand, apply_all};
 use std::process::Abort;
 use std::test::Fail;
 
 fn answers<S: Service>(rt: &impl Abort, service: &mut S, lines: &[(u64, u64)]) {
-    for line in lines {
-        assert_eq!(rt; service.apply(line.0), line.1);
+    for &(command, answer) in lines {
+        assert_eq!(rt; service.apply(command), answer, "to {command:#018x}");
     }
 }
 
 #[test]
-fn a_recorder_takes_samples_alone(rt: HostRuntime) -> Result<(), Fail> {
+fn a_recorder_takes_samples_alone(rt: HostRuntime) {
     let mut recorder = Recorder::new();
     answers(
         &rt,
@@ -27,19 +27,17 @@ fn a_recorder_takes_samples_alone(rt: HostRuntime) -> Result<(), Fail> {
             (0, REFUSED),
         ],
     );
-    let Some(channel) = recorder.channel(15) else {
-        assert!(rt; false);
-        return Ok(());
+    let last = Channel {
+        samples: 2,
+        latest: 7,
     };
-    assert_eq!(rt; channel.samples, 2);
-    assert_eq!(rt; channel.latest, 7);
-    assert!(rt; recorder.channel(16).is_none());
+    assert_eq!(rt; recorder.channel(15), Some(last));
+    assert_eq!(rt; recorder.channel(16), None);
     assert_eq!(rt; recorder.mark(), 31 * 2 + 7);
-    Ok(())
 }
 
 #[test]
-fn a_full_channel_takes_no_more(rt: HostRuntime) -> Result<(), Fail> {
+fn a_full_channel_takes_no_more(rt: HostRuntime) {
     let nearly = Channel {
         samples: u32::MAX - 1,
         latest: 5,
@@ -54,13 +52,11 @@ fn a_full_channel_takes_no_more(rt: HostRuntime) -> Result<(), Fail> {
             (0x5304_0000_0000_0009, 0xFFFF_FFFF),
         ],
     );
-    let Some(channel) = recorder.channel(3) else {
-        assert!(rt; false);
-        return Ok(());
+    let full = Channel {
+        samples: u32::MAX,
+        latest: 8,
     };
-    assert_eq!(rt; channel.samples, u32::MAX);
-    assert_eq!(rt; channel.latest, 8);
-    Ok(())
+    assert_eq!(rt; recorder.channel(3), Some(full));
 }
 
 #[test]
@@ -107,4 +103,14 @@ fn marks_follow_the_order_of_channels_and_places(rt: HostRuntime) {
         &[0x421E_0500_0000_0000, 0x421F_0100_0000_0000],
     );
     assert_eq!(rt; booking.mark(), 156);
+}
+
+#[test]
+fn an_unknown_command_is_shown_as_its_bytes(rt: HostRuntime) -> Result<(), Fail> {
+    let shown = UnknownCommand(0x0310_0000_0000_0007).to_string(rt.alloc())?;
+    assert_eq!(rt;
+        shown.as_str(),
+        "the service has no command 0x0310000000000007: the client wrote it wrongly, or meant another service"
+    );
+    Ok(())
 }
