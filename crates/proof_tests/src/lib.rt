@@ -4,8 +4,9 @@
 #[cfg(test)]
 mod tests {
     use packet::{Kind, Slot, Statement, View};
-    use proof::{active, backups, check_packet, check_proof, primary, spare};
+    use proof::{Choice, active, backups, check_packet, check_proof, primary, spare};
     use sealer::{BenchSealer, Sealer};
+    use std::alloc::{AllocError, Global};
     use std::process::Abort;
     use std::test::Fail;
 
@@ -36,48 +37,27 @@ mod tests {
     #[derive(Clone, Copy)]
     struct Said(Kind, u8, u32, u32, u32, u64);
 
-    // Statements, one behind the other, each under the bench's seal.
-    #[derive(Drop)]
-    struct Written {
-        bytes: [u8; 390],
-        length: usize,
-    }
-
-    fn add(sealer: &mut BenchSealer, written: &mut Written, said: Said) {
-        let Said(kind, signer, view, slot, earlier, command) = said;
-        let mut statement = Statement {
-            kind,
-            signer,
-            view: View(view),
-            slot: Slot(slot),
-            earlier: View(earlier),
-            command,
-            seal: 0,
-        };
-        statement.seal = sealer.seal(&statement.body());
-        let part = statement.write();
-        for byte in &part {
-            if written.length < 390 {
-                written.bytes[written.length] = *byte;
-                written.length += 1;
-            }
+    // The statements, one behind the other, each under the bench's seal.
+    fn written(
+        alloc: Global,
+        sealer: &mut BenchSealer,
+        said: &[Said],
+    ) -> Result<Vec<u8>, AllocError> {
+        let mut bytes = Vec::new(alloc);
+        for Said(kind, signer, view, slot, earlier, command) in said {
+            let mut statement = Statement {
+                kind: *kind,
+                signer: *signer,
+                view: View(*view),
+                slot: Slot(*slot),
+                earlier: View(*earlier),
+                command: *command,
+                seal: 0,
+            };
+            statement.seal = sealer.seal(&statement.body());
+            bytes.extend_from_slice(&statement.write())?;
         }
-    }
-
-    // The statements, with another in place of the one at a place.
-    fn changed(sealer: &mut BenchSealer, said: &[Said], place: usize, other: Said) -> Written {
-        let mut written = Written {
-            bytes: [0; 390],
-            length: 0,
-        };
-        for i in 0..said.len() {
-            add(
-                sealer,
-                &mut written,
-                if i == place { other } else { said[i] },
-            );
-        }
-        written
+        Ok(bytes)
     }
 
     // The number of the refusal; 0 where the packet passes.
@@ -91,16 +71,18 @@ mod tests {
     // What stands at a place in place of what should, and the refusal.
     struct Change(usize, Said, u8);
 
-    fn all_judged(rt: &impl Abort, said: &[Said], changes: &[Change]) -> Result<(), Fail> {
+    fn all_judged(
+        rt: &impl Abort,
+        alloc: Global,
+        said: &[Said],
+        changes: &[Change],
+    ) -> Result<(), Fail> {
         let mut sealer = BenchSealer::new(0)?;
         for Change(place, other, number) in changes {
-            let written = changed(&mut sealer, said, *place, *other);
-            let length = written.length;
-            if length > 390 {
-                assert!(rt; false);
-                return Ok(());
-            }
-            assert_eq!(rt; refused(&sealer, &written.bytes[0..length]), *number);
+            let mut changed = said.to_vec(alloc)?;
+            *changed.get_mut(*place).ok_or("no such place")? = *other;
+            let bytes = written(alloc, &mut sealer, &changed)?;
+            assert_eq!(rt; refused(&sealer, &bytes), *number);
         }
         Ok(())
     }
@@ -145,7 +127,7 @@ mod tests {
 
     #[test]
     fn an_order_rests_on_its_reports(rt: HostRuntime) -> Result<(), Fail> {
-        all_judged(&rt, &ORDER, &ORDERS)
+        all_judged(&rt, rt.alloc(), &ORDER, &ORDERS)
     }
 
     static DECISION: [Said; 3] = [
@@ -166,51 +148,30 @@ mod tests {
 
     #[test]
     fn a_decision_has_every_active_replica(rt: HostRuntime) -> Result<(), Fail> {
-        all_judged(&rt, &DECISION, &DECISIONS)
+        all_judged(&rt, rt.alloc(), &DECISION, &DECISIONS)
     }
 
     // Three reports on slot 9 for view 5, whose signers 0, 1 and 2 name these earlier views and command 7; an earlier
     // view of 0 names none.
-    fn reports(sealer: &mut BenchSealer, earlier: [u32; 3]) -> Written {
-        let mut written = Written {
-            bytes: [0; 390],
-            length: 0,
-        };
-        let mut signer = 0;
-        for view in earlier {
+    fn reports(alloc: Global, earlier: [u32; 3]) -> Result<Vec<Said>, AllocError> {
+        let mut said = Vec::new(alloc);
+        for (signer, view) in (0u8..3).zip(earlier) {
             if view == 0 {
-                add(sealer, &mut written, Said(Kind::Report, signer, 5, 9, 0, 0));
+                said.push(Said(Kind::Report, signer, 5, 9, 0, 0))?;
             } else {
-                add(
-                    sealer,
-                    &mut written,
-                    Said(Kind::Report, signer, 5, 9, view, 7),
-                );
                 let [second, third] = backups(View(view));
-                add(
-                    sealer,
-                    &mut written,
+                said.extend_from_slice(&[
+                    Said(Kind::Report, signer, 5, 9, view, 7),
                     Said(Kind::Order, primary(View(view)), view, 9, 0, 7),
-                );
-                add(
-                    sealer,
-                    &mut written,
                     Said(Kind::Prepare, second, view, 9, 0, 7),
-                );
-                add(
-                    sealer,
-                    &mut written,
                     Said(Kind::Prepare, third, view, 9, 0, 7),
-                );
-            }
-            if signer < 3 {
-                signer += 1;
+                ])?;
             }
         }
-        written
+        Ok(said)
     }
 
-    // Earlier views, how many bytes are handed in, the view and the command, and the refusal.
+    // Earlier views, how many bytes are handed in (cut short or with zeros behind), the view and the command, and the refusal.
     struct Lead([u32; 3], usize, u32, u64, u8);
 
     static LEADS: [Lead; 13] = [
@@ -233,13 +194,14 @@ mod tests {
     fn a_lead_rests_on_its_proof(rt: HostRuntime) -> Result<(), Fail> {
         let mut sealer = BenchSealer::new(0)?;
         for Lead(earlier, length, view, command, number) in &LEADS {
-            let written = reports(&mut sealer, *earlier);
-            if *length > 390 {
-                assert!(rt; false);
-                return Ok(());
-            }
-            let bytes = &written.bytes[0..*length];
-            let judged = match check_proof(&sealer, View(*view), Slot(9), *command, bytes) {
+            let mut bytes = written(rt.alloc(), &mut sealer, &reports(rt.alloc(), *earlier)?)?;
+            bytes.resize(*length, 0)?;
+            let choice = Choice {
+                view: View(*view),
+                slot: Slot(9),
+                command: *command,
+            };
+            let judged = match check_proof(&sealer, choice, &bytes) {
                 Ok(_) => 0,
                 Err(fault) => fault.refusal().number,
             };
