@@ -13,7 +13,6 @@ pub use marks::{Mark, MarkBallot, count_marks};
 
 // How many places hold a ballot equal to `like`. An empty place counts nothing, and `like` itself
 // counts only where it stands in a place.
-#[tactic(auto, using(crate::proofs::Equality::counting))]
 pub fn count<B: Eq>(places: &[Option<B>], like: &B) -> usize
     ensures value { result ≡ count_of B.eq places.now like.now }
     ensures laws { Counting B.eq }

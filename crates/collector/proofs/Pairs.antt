@@ -1,8 +1,8 @@
 -- A count of two is a pair, and so the first result that agrees is that of the lowest replica of a pair.
-use Rattle.std.proofs.Common.{◌≡◌, ℕ, zero, suc, ◌+◌, ◌<◌, ◌≤◌, Bool, true, false, cond, ◌≢◌, List, [], ◌∷◌, length, get_or, set, find, Some, None, count_by, Option, nat_eq, refl, ap, ◌∙◌, inl, inr, arith}
-use Rattle.std.proofs.lemmas.List.{get_or-set_same, get_or-set_other}
+use Rattle.std.proofs.Common.{◌≡◌, ℕ, zero, suc, ◌<◌, ◌≤◌, Bool, true, false, cond, ◌≢◌, List, [], ◌∷◌, length, get_or, set, find, Some, None, count_by, Option, nat_eq, refl, inl, inr, arith}
+use Rattle.std.proofs.lemmas.List.{get_or-set_same, get_or-set_other, get_or_past}
 use Rattle.std.proofs.lemmas.List.Sums.{sum_by-cons, sum_by-set, get_or-le-sum_by}
-use Rattle.std.proofs.lemmas.Bool.{cases_Bool, eqb-true, eq-eqb, leb-true, le-leb}
+use Rattle.std.proofs.lemmas.Bool.{cases_Bool, eq-eqb, leb-true, le-leb}
 use Rattle.std.proofs.lemmas.Bool.Decides.{nat_tests}
 use Rattle.std.specs.List.{flat_map}
 use Rattle.std.specs.Option.{option_to_list}
@@ -17,43 +17,34 @@ module _ {X : Type 0} (test : X → Bool) (d : X) (fails : test d ≡ false) whe
   one_at x = cond (test x) 1 0
 
   within : (xs : List X) (i : ℕ) → test (get_or xs i d) ≡ true → i < length xs
-  within [] i a = cc (a, fails)
-  within (x ∷ xs) zero a = omega arith
-  within (x ∷ xs) (suc i) a = let w = within xs i a in omega arith
+  within xs i a = grind (arith, get_or_past xs i d)
 
   some_place : (xs : List X) → 1 ≤ count_by test xs → (j : ℕ) × (test (get_or xs j d) ≡ true)
   some_place [] h = absurd (omega arith)
   some_place (x ∷ xs) h =
-      let c = sum_by-cons one_at x xs in
       elim (cases_Bool (test x)) [
         | inl e ↦ (0, e)
-        | inr e ↦ let r = some_place xs (grind (arith, nat_tests)) in (suc r.0, r.1)
+        | inr e ↦ let r = some_place xs (grind (arith, nat_tests, sum_by-cons one_at x xs)) in (suc r.0, r.1)
       ]
-
-  -- with a place that passes emptied, one fewer passes
-  one_fewer : (xs : List X) (i : ℕ) → test (get_or xs i d) ≡ true → count_by test (set xs i d) + 1 ≡ count_by test xs
-  one_fewer xs i a = let c = sum_by-set one_at xs i d d (within xs i a) in rw (a, fails) at c ∙ omega arith
 
   -- of two places that pass, one is another than a given one
   another_place : (xs : List X) (i : ℕ) → test (get_or xs i d) ≡ true → 2 ≤ count_by test xs → (j : ℕ) × (j ≢ i) × (test (get_or xs j d) ≡ true)
   another_place xs i a h =
-      let c = one_fewer xs i a in
-      let r = some_place (set xs i d) (omega arith) in
-      let apart : r.0 ≢ i = λ e. let emptied = get_or-set_same xs i d d (within xs i a) in cc (r.1, e, emptied, fails) in
+      let r = some_place (set xs i d) (grind (arith, nat_tests, sum_by-set one_at xs i d d, within xs i a)) in
+      let apart : r.0 ≢ i = λ e. cc (r.1, e, get_or-set_same xs i d d (within xs i a), fails) in
       (r.0, apart, rw (get_or-set_other xs i r.0 d d apart) at r.1)
 
   two_places : (xs : List X) (i j : ℕ) → j ≢ i → test (get_or xs i d) ≡ true → test (get_or xs j d) ≡ true → 2 ≤ count_by test xs
   two_places xs i j n a b =
-      let c = one_fewer xs i a in
-      let other : test (get_or (set xs i d) j d) ≡ true = rw (get_or-set_other xs i j d d n) b in
-      let one = get_or-le-sum_by one_at (set xs i d) j d (within (set xs i d) j other) in
-      let one' : 1 ≤ count_by test (set xs i d) = rw other at one in
-      omega arith
+      grind (arith, nat_tests, sum_by-set one_at xs i d d, within xs i a, get_or-set_other xs i j d d n, within (set xs i d) j, get_or-le-sum_by one_at (set xs i d) j d)
 
--- a place that counts for a result holds it
+-- a place counts for the result that it holds, and for no other
+counts : (r : ℕ) (place : Option ℕ) → place ≡ Some r → counts_for nat_eq r place ≡ true
+counts r place e = rw e (eq-eqb r r refl)
+
 holds : (r : ℕ) (place : Option ℕ) → counts_for nat_eq r place ≡ true → place ≡ Some r
 holds r None e = cc
-holds r (Some s) e = ap Some (eqb-true s r e)
+holds r (Some s) e = grind (arith, nat_tests)
 
 -- the first held result that passes a test
 module _ (test : ℕ → Bool) where
@@ -77,29 +68,24 @@ module _ (test : ℕ → Bool) where
   first_found (None ∷ places) r e = behind None places r (λ s q. cc) (first_found places r e)
   first_found (Some p ∷ places) r e =
       elim (cases_Bool (test p)) [
-        | inl a ↦
-            let same : ◌≡◌ {A = Option ℕ} (Some p) (Some r) = rw a at e in
-            record { at = 0; stands = same; passes = cc; before = λ k s l q. absurd (omega arith) }
+        | inl a ↦ record { at = 0; stands = grind arith; passes = grind arith; before = λ k s l q. absurd (omega arith) }
         | inr a ↦ behind (Some p) places r (λ s q. cc) (first_found places r (rw a at e))
       ]
 
   none_found : (places : List (Option ℕ)) → find test (flat_map option_to_list places) ≡ None → (k s : ℕ) → get_or places k None ≡ Some s → test s ≡ false
   none_found [] e k s q = cc
-  none_found (None ∷ places) e zero s q = cc
-  none_found (None ∷ places) e (suc k) s q = none_found places e k s q
-  none_found (Some p ∷ places) e zero s q = grind arith
-  none_found (Some p ∷ places) e (suc k) s q = grind (arith, none_found places)
+  none_found (place ∷ places) e zero s q = grind arith
+  none_found (place ∷ places) e (suc k) s q = grind (arith, none_found places)
 
 module _ (results : List (Option ℕ)) where
   pair_agrees : (i j r : ℕ) → Pair results i j r → agrees results r ≡ true
   pair_agrees i j r p =
-      let counted : (k : ℕ) → Gave results k r → counts_for nat_eq r (get_or results k None) ≡ true = λ k e. rw e (eq-eqb r r refl) in
-      le-leb 2 (count_of nat_eq results r) (two_places (counts_for nat_eq r) None refl results i j p.apart (counted i p.one) (counted j p.other))
+      le-leb 2 (count_of nat_eq results r) (two_places (counts_for nat_eq r) None refl results i j p.apart (counts r _ p.one) (counts r _ p.other))
 
   agrees_pair : (i r : ℕ) → Gave results i r → agrees results r ≡ true → (j : ℕ) × Pair results i j r
   agrees_pair i r gave a =
-      let m = another_place (counts_for nat_eq r) None refl results i (rw gave (eq-eqb r r refl)) (leb-true 2 (count_of nat_eq results r) a) in
-      (m.0, record { apart = m.1; one = gave; other = holds r (get_or results m.0 None) m.2 })
+      let m = another_place (counts_for nat_eq r) None refl results i (counts r _ gave) (leb-true 2 (count_of nat_eq results r) a) in
+      (m.0, record { apart = m.1; one = gave; other = holds r _ m.2 })
 
   lowest_pair : (r : ℕ) → agreed_result results ≡ Some r → LowestPair results r
   lowest_pair r e =

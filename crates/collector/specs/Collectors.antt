@@ -1,5 +1,5 @@
 -- What a collector takes, keeps and closes with.
-use Rattle.std.specs.Prelude.{ℕ, Bool, cond, List, replicate, find, Some, None, Ok, Err, Option, Result, ◌==◌, nat_eq, nat_le, slice_index_or, slice_set}
+use Rattle.std.specs.Prelude.{ℕ, Bool, if◌then◌else◌, List, replicate, find, Some, None, Ok, Err, Option, Result, ◌==◌, nat_eq, nat_le, slice_index_or, slice_set}
 use Rattle.std.specs.List.{flat_map}
 use Rattle.std.specs.Option.{option_to_list}
 use Rattle.ballot.specs.Counting.{count_of}
@@ -17,15 +17,15 @@ use Rattle.collector.specs.declared.collectors.Waiting.{Waiting}
 
 -- a collector is made for a slot that there is
 abbrev pub new_waiting : Slot → Result Waiting CollectorFault
-new_waiting n = cond (valid n.0) (Ok (record { slot = n; results = replicate 4 None })) (Err fault.Slot)
+new_waiting n = if valid n.0 then Ok (record { slot = n; results = replicate 4 None }) else Err fault.Slot
 
 -- an answer is for the collector's slot, not unlike what its signer said before, and the first of its signer
 abbrev pub check_first : Option ℕ → ℕ → Result (Unit {0}) CollectorFault
 check_first None r = Ok tt
-check_first (Some kept) r = cond (kept == r) (Err fault.Held) (Err fault.Unlike)
+check_first (Some kept) r = if kept == r then Err fault.Held else Err fault.Unlike
 
 abbrev pub check_answer : Waiting → Statement → Result (Unit {0}) CollectorFault
-check_answer w s = cond (s.slot.0 == w.slot.0) (check_first (slice_index_or w.results s.signer None) s.command) (Err fault.Slot)
+check_answer w s = if s.slot.0 == w.slot.0 then check_first (slice_index_or w.results s.signer None) s.command else Err fault.Slot
 
 -- the result is kept in its signer's place
 abbrev pub with_result : Waiting → Statement → Waiting

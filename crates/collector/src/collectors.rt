@@ -51,7 +51,7 @@ impl Waiting {
         if answer.slot != self.slot {
             return Err(CollectorFault::Slot);
         }
-        match self.results[answer.signer as usize] {
+        match self.results[usize::from(answer.signer)] {
             None => Ok(()),
             Some(kept) if kept != answer.command => Err(CollectorFault::Unlike),
             Some(_) => Err(CollectorFault::Held),
@@ -62,7 +62,7 @@ impl Waiting {
         requires { answer.signer < 4 }
         ensures { self.new ≡ with_result self.old answer }
     {
-        self.results[answer.signer as usize] = Some(answer.command);
+        self.results[usize::from(answer.signer)] = Some(answer.command);
     }
 
     // Takes a replica's answer, if it is under a genuine seal, for this slot and the first of its signer.

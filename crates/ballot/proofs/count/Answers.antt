@@ -1,0 +1,5 @@
+use Rattle.ballot.proofs.Equality.{counting}
+use Rattle.ballot.proofs.count.Goals as goal
+
+pub returns-clause-laws : goal.returns-clause-laws
+returns-clause-laws g c = counting g.met.B.Eq.laws
