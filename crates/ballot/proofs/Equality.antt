@@ -1,31 +1,25 @@
--- What the three laws of an equality give of counts.
-use Rattle.std.proofs.Common.{◌≡◌, Bool, true, false, cond, ◌&&◌, List, [], ◌∷◌, get_or, count_by, sym, refl, ap}
-use Rattle.std.proofs.lemmas.List.Sums.{sum_by-cons, get_or-le-sum_by}
-use Rattle.std.proofs.lemmas.Bool.{and_parts, and_from}
+-- What the laws of an equality give of counts.
+use Rattle.std.proofs.Common.{◌≡◌, Bool, true, Some, cond, count_by, ap, ◌∙◌}
+use Rattle.std.proofs.Math.Path.{fun_ext}
+use Rattle.std.proofs.lemmas.Option.{get_or_from_slice_get, slice_get_within}
+use Rattle.std.proofs.lemmas.List.Sums.{get_or-le-sum_by}
+use Rattle.std.specs.Cmp.{IsEquivalence}
+use Rattle.std.specs.Cmp.Lexicographic.{options_equiv}
 use Rattle.ballot.specs.Counting.{counts_for, Counting}
 
--- two tests that agree on every ballot count alike
-countBy_same : {B : Type 0} (p q : B → Bool) → ((b : B) → p b ≡ q b) → (bs : List B) → count_by p bs ≡ count_by q bs
-countBy_same p q agree [] = refl
-countBy_same p q agree (b ∷ bs) =
-    rw (sum_by-cons (λ x. cond (p x) 1 0) b bs, sum_by-cons (λ x. cond (q x) 1 0) b bs, agree b, countBy_same p q agree bs)
+module _ {B : Type 0} {same : B → B → Bool} (laws : IsEquivalence same) where
+  -- equal ballots are counted for by the same places
+  same_places : (a b : B) → same a b ≡ true → counts_for same a ≡ counts_for same b
+  same_places a b e =
+      let on_places = options_equiv laws in
+      fun_ext (λ place. on_places.symm place (Some a) ∙ on_places.congr (Some a) (Some b) place e ∙ on_places.symm (Some b) place)
 
--- two tests, each true where the other is
-each_other : (a b : Bool) → (a ≡ true → b ≡ true) → (b ≡ true → a ≡ true) → a ≡ b
-each_other true b to from = sym (to refl)
-each_other false true to from = from refl
-each_other false false to from = refl
-
-module _ {B : Type 0} (held : B → Bool) (same : B → B → Bool) (reflexive : (a : B) → same a a ≡ true) (symmetric : (a b : B) → same a b ≡ true → same b a ≡ true) (transitive : (a b c : B) → same a b ≡ true → same b c ≡ true → same a c ≡ true) where
-  pub counting : Counting held same
+  pub counting : Counting same
   counting = record {
-    alike = λ places a b e.
-        countBy_same (counts_for held same a) (counts_for held same b)
-        (λ x. ap (λ t. held x && t) (each_other (same x a) (same x b) (λ h. transitive x a b h e) (λ h. transitive x b a h (symmetric a b e))))
-        places;
-    itself = λ places i d within stands.
-        let own = get_or places i d in
-        rw (and_from (held own) (same own own) stands (reflexive own)) at (get_or-le-sum_by (λ x. cond (counts_for held same own x) 1 0) places i d within);
-    together = λ like a b p q.
-        transitive a like b (and_parts (held a) (same a like) p).1 (symmetric b like (and_parts (held b) (same b like) q).1);
+    alike = λ places a b e. ap (λ test. count_by test places) (same_places a b e);
+    itself = λ places i own stands.
+        let read = get_or_from_slice_get places i (Some own) (Some own) stands in
+        let within = slice_get_within places i (Some own) stands in
+        rw (read, laws.refl own) at (get_or-le-sum_by (λ place. cond (counts_for same own place) 1 0) places i (Some own) within);
+    together = λ like a b p q. laws.congr a like b p ∙ laws.symm like b ∙ q;
   }

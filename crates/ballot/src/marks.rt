@@ -1,12 +1,21 @@
-// Marks of a service's state, each with the slot after which it was read, one place a signer.
-ghost use Rattle.std.specs.Prelude.{◌&&◌, ◌==◌};
-ghost use Rattle.std.proofs.Common.{rules};
+// Marks of a service's state, each with the slot after which it was read.
+ghost use Rattle.std.specs.Prelude.{◌≡◌, map};
+ghost use Rattle.ballot.specs.Counting.{count_of};
+ghost use Rattle.ballot.specs.Marks.{held_mark, same_mark};
 
-use crate::Ballot;
+use crate::count;
 use packet::Slot;
 
-// The mark that a signer gave and its slot, where `held`. Two marks of unlike slots are of two
-// states, and say nothing of each other even if the numbers are equal.
+// The mark of a state, with the slot after which it was read. Two marks of unlike slots are of two states, and say nothing of
+// each other even if the numbers are equal.
+#[derive(Clone, Copy, PartialEq, Eq, Debug)]
+pub struct Mark {
+    pub slot: Slot,
+    pub mark: u64,
+}
+
+// A signer's place for its mark. It is flat, with no enum and no `Option` in it, so that a C++ host can hold a replica's state in
+// its own memory.
 #[repr(C)]
 #[derive(Clone, Copy)]
 pub struct MarkBallot {
@@ -15,22 +24,21 @@ pub struct MarkBallot {
     pub mark: u64,
 }
 
-impl Ballot for MarkBallot {
-    ghost held = { λ a. a.held };
-
-    ghost same = { λ a b. a.slot.0 == b.slot.0 && a.mark == b.mark };
-
-    ghost reflexive = { Prim.search rules };
-
-    ghost symmetric = { Prim.search rules };
-
-    ghost transitive = { Prim.search rules };
-
-    fn is_held(&self) -> bool {
-        self.held
+impl MarkBallot {
+    // The mark that the place holds.
+    pub fn held_mark(self) -> Option<Mark>
+        ensures { result ≡ held_mark self }
+    {
+        self.held.then_some(Mark {
+            slot: self.slot,
+            mark: self.mark,
+        })
     }
+}
 
-    fn is_same(&self, other: &MarkBallot) -> bool {
-        self.slot == other.slot && self.mark == other.mark
-    }
+// How many places of a row hold this mark.
+pub fn count_marks(row: &[MarkBallot; 4], mark: &Mark) -> usize
+    ensures { result ≡ count_of same_mark (map held_mark row.now) mark.now }
+{
+    count(&row.map(MarkBallot::held_mark), mark)
 }

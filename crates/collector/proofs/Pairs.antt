@@ -1,140 +1,109 @@
--- A count of two is a pair, and so the first place that agrees is the lowest replica of a pair.
-use Rattle.std.proofs.Common.{◌≡◌, ℕ, zero, suc, ◌+◌, ◌<◌, ◌≤◌, Bool, true, false, cond, eqb, leb, ◌≢◌, ◌⊎◌, List, [], ◌∷◌, get_or, Some, None, count_by, Option, refl, ap, ◌∙◌, inl, inr, arith}
-use Rattle.std.proofs.lemmas.List.Sums.{sum_by-cons}
-use Rattle.std.proofs.lemmas.Bool.{and_parts, eqb-true, eq-eqb, leb-true, le-leb}
+-- A count of two is a pair, and so the first result that agrees is that of the lowest replica of a pair.
+use Rattle.std.proofs.Common.{◌≡◌, ℕ, zero, suc, ◌<◌, ◌≤◌, Bool, true, false, cond, ◌≢◌, List, [], ◌∷◌, length, get_or, set, find, Some, None, count_by, Option, nat_eq, refl, inl, inr, arith}
+use Rattle.std.proofs.lemmas.List.{get_or-set_same, get_or-set_other, get_or_past}
+use Rattle.std.proofs.lemmas.List.Sums.{sum_by-cons, sum_by-set, get_or-le-sum_by}
+use Rattle.std.proofs.lemmas.Bool.{cases_Bool, eq-eqb, leb-true, le-leb}
 use Rattle.std.proofs.lemmas.Bool.Decides.{nat_tests}
+use Rattle.std.specs.List.{flat_map}
+use Rattle.std.specs.Option.{option_to_list}
 use Rattle.ballot.specs.Counting.{counts_for, count_of}
-use Rattle.ballot.specs.declared.results.ResultBallot.{ResultBallot}
 use Rattle.collector.specs.declared.collectors.Waiting.{Waiting}
-use Rattle.collector.specs.Collectors.{empty, holding, held, same, agrees, agreed_result, closed_as}
-use Rattle.collector.specs.Laws.{Pair, LowestPair, Closes, ClosesExactly}
-
-by_test : (b : Bool) → (b ≡ true) ⊎ (b ≡ false)
-by_test true = inl refl
-by_test false = inr refl
+use Rattle.collector.specs.Collectors.{agrees, agreed_result, closed_as}
+use Rattle.collector.specs.Laws.{Gave, Pair, LowestPair, Closes, ClosesExactly}
 
 -- places that pass a test, counted; past the last place stands one that does not
-module _ {X : Type 0} (test : X → Bool) (d : X) where
-  count_cons : (x : X) (xs : List X) → count_by test (x ∷ xs) ≡ cond (test x) 1 0 + count_by test xs
-  count_cons x xs = sum_by-cons (λ y. cond (test y) 1 0) x xs
+module _ {X : Type 0} (test : X → Bool) (d : X) (fails : test d ≡ false) where
+  abbrev one_at : X → ℕ
+  one_at x = cond (test x) 1 0
+
+  within : (xs : List X) (i : ℕ) → test (get_or xs i d) ≡ true → i < length xs
+  within xs i a = grind (arith, get_or_past xs i d)
 
   some_place : (xs : List X) → 1 ≤ count_by test xs → (j : ℕ) × (test (get_or xs j d) ≡ true)
   some_place [] h = absurd (omega arith)
   some_place (x ∷ xs) h =
-      let c = count_cons x xs in
-      elim (by_test (test x)) [
+      elim (cases_Bool (test x)) [
         | inl e ↦ (0, e)
-        | inr e ↦ let r = some_place xs (grind (arith, nat_tests)) in (suc r.0, r.1)
+        | inr e ↦ let r = some_place xs (grind (arith, nat_tests, sum_by-cons one_at x xs)) in (suc r.0, r.1)
       ]
-
-  one_place : (xs : List X) (j : ℕ) → test d ≡ false → test (get_or xs j d) ≡ true → 1 ≤ count_by test xs
-  one_place [] j e b = let z : ◌≡◌ {A = ℕ} 0 1 = cc in absurd (omega arith)
-  one_place (x ∷ xs) zero e b = let c = count_cons x xs in grind (arith, nat_tests)
-  one_place (x ∷ xs) (suc j) e b = let c = count_cons x xs in let r = one_place xs j e b in grind (arith, nat_tests)
 
   -- of two places that pass, one is another than a given one
-  another_place : (xs : List X) (i : ℕ) → 2 ≤ count_by test xs → (j : ℕ) × (j ≢ i) × (test (get_or xs j d) ≡ true)
-  another_place [] i h = absurd (omega arith)
-  another_place (x ∷ xs) zero h =
-      let c = count_cons x xs in
-      let r = some_place xs (grind (arith, nat_tests)) in
-      (suc r.0, (λ z. omega arith), r.1)
-  another_place (x ∷ xs) (suc i) h =
-      let c = count_cons x xs in
-      elim (by_test (test x)) [
-        | inl e ↦ (0, (λ z. omega arith), e)
-        | inr e ↦ let r = another_place xs i (grind (arith, nat_tests)) in (suc r.0, (λ z. r.1 (omega arith)), r.2)
-      ]
+  another_place : (xs : List X) (i : ℕ) → test (get_or xs i d) ≡ true → 2 ≤ count_by test xs → (j : ℕ) × (j ≢ i) × (test (get_or xs j d) ≡ true)
+  another_place xs i a h =
+      let r = some_place (set xs i d) (grind (arith, nat_tests, sum_by-set one_at xs i d d, within xs i a)) in
+      let apart : r.0 ≢ i = λ e. cc (r.1, e, get_or-set_same xs i d d (within xs i a), fails) in
+      (r.0, apart, rw (get_or-set_other xs i r.0 d d apart) at r.1)
 
-  two_places : (xs : List X) (i j : ℕ) → j ≢ i → test d ≡ false → test (get_or xs i d) ≡ true → test (get_or xs j d) ≡ true → 2 ≤ count_by test xs
-  two_places [] i j n e a b = let z : ◌≡◌ {A = ℕ} 0 1 = cc in absurd (omega arith)
-  two_places (x ∷ xs) zero zero n e a b = absurd (n refl)
-  two_places (x ∷ xs) zero (suc j) n e a b = let c = count_cons x xs in let r = one_place xs j e b in grind (arith, nat_tests)
-  two_places (x ∷ xs) (suc i) zero n e a b = let c = count_cons x xs in let r = one_place xs i e a in grind (arith, nat_tests)
-  two_places (x ∷ xs) (suc i) (suc j) n e a b =
-      let c = count_cons x xs in
-      let r = two_places xs i j (λ z. n (ap suc z)) e a b in
-      grind (arith, nat_tests)
+  two_places : (xs : List X) (i j : ℕ) → j ≢ i → test (get_or xs i d) ≡ true → test (get_or xs j d) ≡ true → 2 ≤ count_by test xs
+  two_places xs i j n a b =
+      grind (arith, nat_tests, sum_by-set one_at xs i d d, within xs i a, get_or-set_other xs i j d d n, within (set xs i d) j, get_or-le-sum_by one_at (set xs i d) j d)
 
--- a place is held with its result
-held_is : (p : ResultBallot) → p.held ≡ true → p ≡ holding p.result
-held_is p e = ap (λ b. record { held = b; result = p.result }) e
+-- a place counts for the result that it holds, and for no other
+counts : (r : ℕ) (place : Option ℕ) → place ≡ Some r → counts_for nat_eq r place ≡ true
+counts r place e = rw e (eq-eqb r r refl)
 
-module _ (results : List ResultBallot) where
-  abbrev place : ℕ → ResultBallot
-  place i = get_or results i empty
+holds : (r : ℕ) (place : Option ℕ) → counts_for nat_eq r place ≡ true → place ≡ Some r
+holds r None e = cc
+holds r (Some s) e = grind (arith, nat_tests)
 
-  pair_agrees : (i j r : ℕ) → Pair results i j r → agrees results (place i) ≡ true
-  pair_agrees i j r p =
-      let a = p.one in
-      let b = p.other in
-      let test = counts_for held same (holding r) in
-      let n : 2 ≤ count_of held same results (holding r) = two_places test empty results i j p.apart refl (rw a (eq-eqb r r refl)) (rw b (eq-eqb r r refl)) in
-      rw a (le-leb 2 (count_of held same results (holding r)) n)
-
-  agrees_pair : (i : ℕ) → agrees results (place i) ≡ true → (j : ℕ) × Pair results i j (place i).result
-  agrees_pair i e =
-      let a = and_parts (place i).held (leb 2 (count_of held same results (place i))) e in
-      let m = another_place (counts_for held same (place i)) empty results i (leb-true 2 (count_of held same results (place i)) a.1) in
-      let b = and_parts (place m.0).held (eqb (place m.0).result (place i).result) m.2 in
-      let q = eqb-true (place m.0).result (place i).result b.1 in
-      (m.0, record { apart = m.1; one = held_is (place i) a.0; other = held_is (place m.0) b.0 ∙ ap holding q })
-
-  -- the first place that agrees
-  record First (rest : List ResultBallot) (r : ℕ) : Type 0 where
+-- the first held result that passes a test
+module _ (test : ℕ → Bool) where
+  record First (places : List (Option ℕ)) (r : ℕ) : Type 0 where
     at : ℕ
-    agreeing : agrees results (get_or rest at empty) ≡ true
-    value : (get_or rest at empty).result ≡ r
-    before : (k : ℕ) → k < at → agrees results (get_or rest k empty) ≡ false
+    stands : get_or places at None ≡ Some r
+    passes : test r ≡ true
+    before : (k s : ℕ) → k < at → get_or places k None ≡ Some s → test s ≡ false
 
-  none_before : (p : ResultBallot) (rest : List ResultBallot) (n : ℕ) → agrees results p ≡ false → ((k : ℕ) → k < n → agrees results (get_or rest k empty) ≡ false) → (k : ℕ) → k < suc n → agrees results (get_or (p ∷ rest) k empty) ≡ false
-  none_before p rest n a b zero l = a
-  none_before p rest n a b (suc k) l = b k (omega arith)
+  -- a place in front that holds no such result
+  behind : (place : Option ℕ) (places : List (Option ℕ)) (r : ℕ) → ((s : ℕ) → place ≡ Some s → test s ≡ false) → First places r → First (place ∷ places) r
+  behind place places r fails f = record {
+    at = suc f.at;
+    stands = f.stands;
+    passes = f.passes;
+    before = elim [ zero ↦ λ s l q. fails s q | suc k ↦ λ s l q. f.before k s (omega arith) q ];
+  }
 
-  first_found : (rest : List ResultBallot) (r : ℕ) → agreed_result results rest ≡ Some r → First rest r
-  first_found [] r e = let z : ◌≡◌ {A = ℕ} 0 1 = cc in absurd (omega arith)
-  first_found (p ∷ rest) r e =
-      elim (by_test (agrees results p)) [
-        | inl a ↦
-            let s : ◌≡◌ {A = Option ℕ} (Some p.result) (Some r) = rw a at e in
-            record { at = 0; agreeing = a; value = cc; before = λ k l. absurd (omega arith) }
-        | inr a ↦
-            let f = first_found rest r (rw a at e) in
-            record { at = suc f.at; agreeing = f.agreeing; value = f.value; before = none_before p rest f.at a f.before }
+  first_found : (places : List (Option ℕ)) (r : ℕ) → find test (flat_map option_to_list places) ≡ Some r → First places r
+  first_found [] r e = cc
+  first_found (None ∷ places) r e = behind None places r (λ s q. cc) (first_found places r e)
+  first_found (Some p ∷ places) r e =
+      elim (cases_Bool (test p)) [
+        | inl a ↦ record { at = 0; stands = grind arith; passes = grind arith; before = λ k s l q. absurd (omega arith) }
+        | inr a ↦ behind (Some p) places r (λ s q. cc) (first_found places r (rw a at e))
       ]
 
-  none_found : (rest : List ResultBallot) → agreed_result results rest ≡ None → (k : ℕ) → agrees results (get_or rest k empty) ≡ false
-  none_found [] e k = refl
-  none_found (p ∷ rest) e k =
-      elim (by_test (agrees results p)) [
-        | inl a ↦
-            let s : ◌≡◌ {A = Option ℕ} (Some p.result) None = rw a at e in
-            let z : ◌≡◌ {A = ℕ} 0 1 = cc in
-            absurd (omega arith)
-        | inr a ↦ none_before p rest k a (λ j _. none_found rest (rw a at e) j) k (omega arith)
-      ]
+  none_found : (places : List (Option ℕ)) → find test (flat_map option_to_list places) ≡ None → (k s : ℕ) → get_or places k None ≡ Some s → test s ≡ false
+  none_found [] e k s q = cc
+  none_found (place ∷ places) e zero s q = grind arith
+  none_found (place ∷ places) e (suc k) s q = grind (arith, none_found places)
 
-  lowest_pair : (r : ℕ) → agreed_result results results ≡ Some r → LowestPair results r
+module _ (results : List (Option ℕ)) where
+  pair_agrees : (i j r : ℕ) → Pair results i j r → agrees results r ≡ true
+  pair_agrees i j r p =
+      le-leb 2 (count_of nat_eq results r) (two_places (counts_for nat_eq r) None refl results i j p.apart (counts r _ p.one) (counts r _ p.other))
+
+  agrees_pair : (i r : ℕ) → Gave results i r → agrees results r ≡ true → (j : ℕ) × Pair results i j r
+  agrees_pair i r gave a =
+      let m = another_place (counts_for nat_eq r) None refl results i (counts r _ gave) (leb-true 2 (count_of nat_eq results r) a) in
+      (m.0, record { apart = m.1; one = gave; other = holds r _ m.2 })
+
+  lowest_pair : (r : ℕ) → agreed_result results ≡ Some r → LowestPair results r
   lowest_pair r e =
-      let f = first_found results r e in
-      let p = agrees_pair f.at f.agreeing in
+      let f = first_found (agrees results) results r e in
+      let p = agrees_pair f.at r f.stands f.passes in
       record {
         lower = f.at;
         partner = p.0;
-        pair = rw f.value at p.1;
-        lowest = λ k m s l q. let a = f.before k l in let b = pair_agrees k m s q in let z : ◌≡◌ {A = ℕ} 0 1 = cc in omega arith;
+        pair = p.1;
+        lowest = λ k m s l q. cc (f.before k s l q.one, pair_agrees k m s q);
       }
 
-  no_pair : agreed_result results results ≡ None → (i j r : ℕ) → ¬ Pair results i j r
-  no_pair e i j r q =
-      let a = none_found results e i in
-      let b = pair_agrees i j r q in
-      let z : ◌≡◌ {A = ℕ} 0 1 = cc in
-      omega arith
+  no_pair : agreed_result results ≡ None → (i j r : ℕ) → ¬ Pair results i j r
+  no_pair e i j r q = cc (none_found (agrees results) results e i r q.one, pair_agrees i j r q)
 
-closes_as : (w : Waiting) (o : Option ℕ) → agreed_result w.results w.results ≡ o → Closes w (closed_as w o)
+closes_as : (w : Waiting) (o : Option ℕ) → agreed_result w.results ≡ o → Closes w (closed_as w o)
 closes_as w (Some r) e = (refl, lowest_pair w.results r e)
 closes_as w None e = (refl, refl, no_pair w.results e)
 
 pub closes_exactly : ClosesExactly
-closes_exactly w = closes_as w (agreed_result w.results w.results) refl
+closes_exactly w = closes_as w (agreed_result w.results) refl

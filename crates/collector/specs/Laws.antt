@@ -1,25 +1,24 @@
 -- When a collector closes, in the words of its replicas' results.
-use Rattle.std.specs.Prelude.{◌≡◌, ℕ, ◌<◌, ◌≢◌, List, None, Ok, Err, Result, slice_index_or}
-use Rattle.ballot.specs.declared.results.ResultBallot.{ResultBallot}
+use Rattle.std.specs.Prelude.{◌≡◌, ℕ, ◌<◌, ◌≢◌, List, Some, None, Ok, Err, Option, Result, slice_index_or}
 use Rattle.refusal.specs.Refusals.{of_collector, tells}
 use Rattle.refusal.specs.declared.tellings.Layer.TheVariants as layer
 use Rattle.collector.specs.declared.collectors.Closed.{Closed}
 use Rattle.collector.specs.declared.collectors.Unclosed.{Unclosed}
 use Rattle.collector.specs.declared.collectors.Waiting.{Waiting}
-use Rattle.collector.specs.Collectors.{empty, holding, closing}
+use Rattle.collector.specs.Collectors.{closing}
 
 -- replica i gave result r
-abbrev pub Gave : List ResultBallot → ℕ → ℕ → Type 0
-Gave results i r = slice_index_or results i empty ≡ holding r
+abbrev pub Gave : List (Option ℕ) → ℕ → ℕ → Type 0
+Gave results i r = slice_index_or results i None ≡ Some r
 
 -- two different replicas gave result r
-pub record Pair (results : List ResultBallot) (i j r : ℕ) : Type 0 where
+pub record Pair (results : List (Option ℕ)) (i j r : ℕ) : Type 0 where
   pub apart : j ≢ i
   pub one : Gave results i r
   pub other : Gave results j r
 
 -- two different replicas gave result r, and no lower replica gave what another gave
-pub record LowestPair (results : List ResultBallot) (r : ℕ) : Type 0 where
+pub record LowestPair (results : List (Option ℕ)) (r : ℕ) : Type 0 where
   pub lower : ℕ
   pub partner : ℕ
   pub pair : Pair results lower partner r

@@ -4,7 +4,7 @@ ghost use Rattle.std.specs.Prelude.{◌≡◌, ◌<◌, Some};
 ghost use Rattle.collector.specs.Laws.{ClosesExactly};
 ghost use Rattle.collector.specs.Collectors.{new_waiting, check_answer, with_result, added, agreed_result, closing};
 
-use ballot::{ResultBallot, count};
+use ballot::count;
 use packet::{Reader, Slot, Statement};
 use refusal::CollectorFault;
 use sealer::{Sealer, open};
@@ -13,7 +13,7 @@ use sealer::{Sealer, open};
 #[derive(Drop)]
 pub struct Waiting {
     slot: Slot,
-    results: [ResultBallot; 4],
+    results: [Option<u64>; 4],
 }
 
 // A collector that has its result.
@@ -38,13 +38,9 @@ impl Waiting {
         if !slot.is_valid() {
             return Err(CollectorFault::Slot);
         }
-        let empty = ResultBallot {
-            held: false,
-            result: 0,
-        };
         Ok(Waiting {
             slot,
-            results: [empty; 4],
+            results: [None; 4],
         })
     }
 
@@ -55,23 +51,18 @@ impl Waiting {
         if answer.slot != self.slot {
             return Err(CollectorFault::Slot);
         }
-        let signer = answer.signer as usize;
-        if !self.results[signer].held {
-            return Ok(());
+        match self.results[usize::from(answer.signer)] {
+            None => Ok(()),
+            Some(kept) if kept != answer.command => Err(CollectorFault::Unlike),
+            Some(_) => Err(CollectorFault::Held),
         }
-        if self.results[signer].result != answer.command {
-            return Err(CollectorFault::Unlike);
-        }
-        Err(CollectorFault::Held)
     }
 
     fn keep(&mut self, answer: Statement)
         requires { answer.signer < 4 }
         ensures { self.new ≡ with_result self.old answer }
     {
-        let place = &mut self.results[answer.signer as usize];
-        place.held = true;
-        place.result = answer.command;
+        self.results[usize::from(answer.signer)] = Some(answer.command);
     }
 
     // Takes a replica's answer, if it is under a genuine seal, for this slot and the first of its signer.
@@ -87,11 +78,11 @@ impl Waiting {
     }
 
     // Closes with the result that two replicas gave, or hands the collector back.
+    #[tactic(auto, using(crate::proofs::Pairs::closes_exactly))]
     pub fn close(self) -> Result<Closed, Unclosed>
         ensures exact { result ≡ closing self }
         ensures law { ClosesExactly }
     {
-        law();
         let Some(result) = agreed(&self.results) else {
             return Err(Unclosed {
                 waiting: self,
@@ -105,21 +96,15 @@ impl Waiting {
     }
 }
 
-// Promises when a collector closes and with which result, and does nothing: `close` calls it to promise the same.
-fn law()
-    ensures { ClosesExactly }
-{}
-
 // The result that two places hold; where two pairs agree, that of the first place among them.
-fn agreed(places: &[ResultBallot]) -> Option<u64>
-    ensures { result ≡ agreed_result places.now places.now }
+fn agreed(places: &[Option<u64>]) -> Option<u64>
+    ensures { result ≡ agreed_result places.now }
 {
-    for place in places {
-        if place.held && count(places, place) >= 2 {
-            return Some(place.result);
-        }
-    }
-    None
+    places
+        .iter()
+        .copied()
+        .flatten()
+        .find(|ballot| count(places, ballot) >= 2)
 }
 
 impl Closed {

@@ -1,6 +1,7 @@
 -- What a replica holds besides its sealer and its service, and what changes it.
 use Rattle.std.specs.Prelude.{ℕ, zero, suc, ◌+◌, ◌-◌, ◌/◌, ◌%◌, min, max, Bool, true, false, cond, ◌&&◌, List, map, get_or, replicate, Some, None, Option, ◌==◌, nat_le, nat_lt, slice_index_or, slice_set}
 use Rattle.ballot.specs.Counting.{count_of}
+use Rattle.ballot.specs.Marks.{mark_of, held_mark, same_mark}
 use Rattle.ballot.specs.declared.marks.MarkBallot.{MarkBallot}
 use Rattle.slots.specs.Records.{blank, with_order, with_prepare, with_commit, with_decision, dropped, all_prepared, settled, confirmed, is_there}
 use Rattle.slots.specs.declared.cores.Core.{Core}
@@ -104,12 +105,9 @@ with_marks core ms = record { view = core.view; count = core.count; floor = core
 abbrev pub with_mark : Core → (n j m : ℕ) → Core
 with_mark core n j m = with_marks core (slice_set core.marks (n / 16 % 2) (slice_set (row core n) j (record { held = true; slot = record { 0 = n }; mark = m })))
 
-abbrev pub same_mark : MarkBallot → MarkBallot → Bool
-same_mark a b = a.slot.0 == b.slot.0 && a.mark == b.mark
-
 -- the own mark of slot n is held, and with it three equal ones or more
 abbrev pub is_agreed : (own : ℕ) → Core → ℕ → Bool
-is_agreed own core n = has_mark core n own && nat_le 3 (count_of (λ a. a.held) same_mark (row core n) (mark_at core n own))
+is_agreed own core n = has_mark core n own && nat_le 3 (count_of same_mark (map held_mark (row core n)) (mark_of (mark_at core n own)))
 
 -- the k records above the floor hold nothing
 abbrev pub cleared : List Record → (floor k : ℕ) → List Record
