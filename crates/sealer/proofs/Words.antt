@@ -1,10 +1,10 @@
 -- Laws of the numbers that bytes stand for, low byte first.
-use Rattle.std.proofs.Common.{◌≡◌, ℕ, zero, suc, ◌+◌, ◌*◌, ◌/◌, ◌%◌, ◌^◌, ◌<◌, ◌≤◌, List, [], ◌∷◌, ◌++◌, length, get_or, set, replicate, take, drop, refl, ap, ◌∙◌, add-one, arith}
+use Rattle.std.proofs.Common.{◌≡◌, ℕ, zero, suc, ◌+◌, ◌-◌, ◌*◌, ◌/◌, ◌%◌, ◌^◌, ◌<◌, ◌≤◌, List, [], ◌∷◌, ◌++◌, length, get_or, set, replicate, take, drop, refl, ap, ◌∙◌, add-one, arith}
 use Rattle.std.proofs.lemmas.List.{get_or-drop, get_or-take, get_or-set_other, get_or-set_same, drop-drop, length-append, length-drop}
-use Rattle.std.specs.Int.{w64, from_le_bytes}
+use Rattle.std.specs.Int.{w64, from_le_bytes, rotate_left}
 use Rattle.std.specs.Simd.{first_chunks}
 use Rattle.sealer.specs.declared.hashes.State.{State}
-use Rattle.sealer.specs.Siphash.{low, last_word, absorbed, compressed}
+use Rattle.sealer.specs.Siphash.{low, last_word, absorbed, compressed, turned}
 
 -- a number reads the same in the bytes from a place on, and where its bytes are taken out
 pub low_dropped : (n i j : ℕ) (bs : List ℕ) → low n (drop i bs) j ≡ low n bs (i + j)
@@ -88,3 +88,10 @@ last_bytes bs b h =
 pub absorbed_more : (s : State) (bs : List ℕ) (n w : ℕ) → w ≡ low 8 bs (8 * n) → compressed (absorbed s bs n) w ≡ absorbed s bs (n + 1)
 unfolding absorbed
 absorbed_more s bs n w e = rw (add-one, e) refl
+
+-- a word turned by less than its bits
+pub turned_is : (a k : ℕ) → 0 < k → k < 64 → rotate_left w64 a k ≡ turned a k
+turned_is a k p h =
+    let l : k % 64 ≡ k = omega arith in
+    let r : (64 - k) % 64 ≡ 64 - k = omega arith in
+    rw (l, r) refl

@@ -30,6 +30,15 @@ second_half s = record {
 unfoldable pub sip_round : State → State
 sip_round s = second_half (first_half s)
 
+-- the first half with v0 and v2 in each other's place, and other turns: with 17 and 21 it is the second half of what it leaves
+abbrev pub half : (left right : ℕ) → State → State
+half left right s = record {
+  v0 = plus s.v2 s.v3;
+  v1 = bit_xor (turned s.v1 left) (plus s.v0 s.v1);
+  v2 = turned (plus s.v0 s.v1) 32;
+  v3 = bit_xor (turned s.v3 right) (plus s.v2 s.v3);
+}
+
 -- initialization, from the two words of the key
 abbrev pub keyed : ℕ → ℕ → State
 keyed k0 k1 = record {

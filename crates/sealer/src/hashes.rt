@@ -1,6 +1,6 @@
 // SipHash-2-4 over bytes of any length.
-ghost use Rattle.std.specs.Prelude.{◌≡◌, ◌+◌, ◌*◌, ◌%◌, ◌^◌, ◌≤◌, length};
-ghost use Rattle.sealer.specs.Siphash.{first_half, second_half, sip_round, low, keyed, compressed, finished, siphash};
+ghost use Rattle.std.specs.Prelude.{◌≡◌, ◌+◌, ◌*◌, ◌%◌, ◌^◌, ◌<◌, ◌≤◌, length};
+ghost use Rattle.sealer.specs.Siphash.{half, sip_round, low, keyed, compressed, finished, siphash};
 
 // The four words that a message is mixed into.
 #[derive(Clone, Copy)]
@@ -23,33 +23,27 @@ impl State {
         }
     }
 
-    fn first_half(self) -> State
-        ensures { result ≡ first_half self }
+    // Half of a round. It leaves v0 and v2 in each other's place, so that the other half is the same with other turns.
+    fn half<const LEFT: u32, const RIGHT: u32>(self) -> State
+        requires left { (0 < LEFT) × (LEFT < 64) }
+        requires right { (0 < RIGHT) × (RIGHT < 64) }
+        ensures { result ≡ half LEFT RIGHT self }
     {
         let v0 = self.v0.wrapping_add(self.v1);
         let v2 = self.v2.wrapping_add(self.v3);
-        let v1 = self.v1.rotate_left(13) ^ v0;
-        let v3 = self.v3.rotate_left(16) ^ v2;
-        let v0 = v0.rotate_left(32);
-        State { v0, v1, v2, v3 }
-    }
-
-    fn second_half(self) -> State
-        ensures { result ≡ second_half self }
-    {
-        let v2 = self.v2.wrapping_add(self.v1);
-        let v0 = self.v0.wrapping_add(self.v3);
-        let v1 = self.v1.rotate_left(17) ^ v2;
-        let v3 = self.v3.rotate_left(21) ^ v0;
-        let v2 = v2.rotate_left(32);
-        State { v0, v1, v2, v3 }
+        State {
+            v0: v2,
+            v1: self.v1.rotate_left(LEFT) ^ v0,
+            v2: v0.rotate_left(32),
+            v3: self.v3.rotate_left(RIGHT) ^ v2,
+        }
     }
 
     #[tactic(auto, unfolding(crate::specs::Siphash::sip_round))]
     fn round(self) -> State
         ensures { result ≡ sip_round self }
     {
-        self.first_half().second_half()
+        self.half::<13, 16>().half::<17, 21>()
     }
 
     #[tactic(auto, unfolding(crate::specs::Siphash::compressed))]
