@@ -63,22 +63,22 @@ mod tests {
 
     #[test]
     fn each_field_has_its_range(rt: HostRuntime) {
-        for Row(kind, signer, view, slot, earlier, command, proper) in &FIELDS {
+        for &Row(kind, signer, view, slot, earlier, command, proper) in &FIELDS {
             let statement = Statement {
-                kind: *kind,
-                signer: *signer,
-                view: View(*view),
-                slot: Slot(*slot),
-                earlier: View(*earlier),
-                command: *command,
+                kind,
+                signer,
+                view: View(view),
+                slot: Slot(slot),
+                earlier: View(earlier),
+                command,
                 seal: 1,
             };
-            let expected = if *proper {
+            let expected = if proper {
                 Ok(statement)
             } else {
                 Err(PacketFault::Statement { place: 5 })
             };
-            assert!(rt; Statement::read(&statement.write(), 5) == expected);
+            assert_eq!(rt; Statement::read(&statement.write(), 5), expected);
         }
     }
 
@@ -116,65 +116,52 @@ mod tests {
 
     // The number of the refusal; 0 where the packet is accepted.
     fn refused(reader: Reader, bytes: &[u8]) -> u8 {
-        match read_packet(reader, bytes) {
-            Ok(_) => 0,
-            Err(fault) => fault.refusal().number,
-        }
+        read_packet(reader, bytes)
+            .err()
+            .map_or(0, |fault| fault.refusal().number)
     }
 
     // After its first byte the packet is all zero, which no kind allows: a length that is allowed shows as 4.
     #[test]
     fn each_kind_has_its_lengths(rt: HostRuntime) {
-        for Form(byte, _, _, lengths) in &FORMS {
+        for &Form(byte, _, _, lengths) in &FORMS {
             let mut bytes = [0; 400];
-            bytes[0] = *byte;
-            for n in 1..401 {
+            bytes[0] = byte;
+            for n in 1..=400 {
                 let expected = if lengths.contains(&n) { 4 } else { 3 };
-                assert_eq!(rt; refused(Reader::Monitor, &bytes[0..n]), expected);
+                assert_eq!(rt; refused(Reader::Monitor, &bytes[..n]), expected);
             }
         }
     }
 
+    // No packet has one byte: a kind that is taken shows as 3.
     #[test]
     fn each_reader_takes_its_kinds(rt: HostRuntime) {
         assert_eq!(rt; refused(Reader::Monitor, &[]), 2);
         for byte in 0..=255u8 {
-            let mut replica = 2;
-            let mut collector = 2;
-            let mut monitor = 2;
-            for Form(first, to_replica, to_collector, _) in &FORMS {
-                if byte == *first {
-                    replica = if *to_replica { 3 } else { 2 };
-                    collector = if *to_collector { 3 } else { 2 };
-                    monitor = 3;
-                }
+            let form = FORMS.iter().find(|Form(first, _, _, _)| *first == byte);
+            let readers = [
+                (
+                    Reader::Replica,
+                    form.is_some_and(|Form(_, to_replica, _, _)| *to_replica),
+                ),
+                (
+                    Reader::Collector,
+                    form.is_some_and(|Form(_, _, to_collector, _)| *to_collector),
+                ),
+                (Reader::Monitor, form.is_some()),
+            ];
+            for (reader, takes) in readers {
+                let expected = if takes { 3 } else { 2 };
+                assert_eq!(rt; refused(reader, &[byte]), expected);
             }
-            assert_eq!(rt; refused(Reader::Replica, &[byte]), replica);
-            assert_eq!(rt; refused(Reader::Collector, &[byte]), collector);
-            assert_eq!(rt; refused(Reader::Monitor, &[byte]), monitor);
         }
     }
 
-    // The longest packet, of thirteen equal statements.
-    fn longest(part: &[u8; 30]) -> [u8; 390] {
-        let mut bytes = [0; 390];
-        for i in 0..390usize {
-            bytes[i] = part[i % 30];
-        }
-        bytes
-    }
-
-    // The same with a signer that there is not, in each statement from a place on.
-    fn spoiled(mut bytes: [u8; 390], place: usize) -> [u8; 390] {
-        for i in place..13 {
-            bytes[30 * i + 1] = 4;
-        }
-        bytes
-    }
-
+    // The longest packet, of thirteen equal statements, and then with a signer that there is not in each from a place on.
     #[test]
     fn the_first_bad_statement_is_named(rt: HostRuntime) {
-        let order = Statement {
+        let good = Statement {
             kind: Kind::Order,
             signer: 0,
             view: View(1),
@@ -183,13 +170,14 @@ mod tests {
             command: 1,
             seal: 1,
         };
-        let good = longest(&order.write());
-        assert_eq!(rt; refused(Reader::Replica, &good), 0);
+        let bad = Statement { signer: 4, ..good };
+        let longest = [good.write(); 13];
+        assert_eq!(rt; refused(Reader::Replica, longest.as_flattened()), 0);
         for place in 0..13u32 {
-            match read_packet(Reader::Replica, &spoiled(good, place as usize)) {
-                Ok(_) => assert!(rt; false),
-                Err(fault) => assert!(rt; fault == PacketFault::Statement { place }),
-            }
+            let mut spoiled = longest;
+            spoiled[place as usize..].fill(bad.write());
+            let fault = read_packet(Reader::Replica, spoiled.as_flattened()).err();
+            assert_eq!(rt; fault, Some(PacketFault::Statement { place }));
         }
     }
 }

@@ -86,8 +86,8 @@ mod tests {
 
     #[test]
     fn siphash_gives_the_published_results(rt: HostRuntime) {
-        for n in 0..64usize {
-            assert_eq!(rt; siphash(&KEY, &MESSAGE[0..n]), VECTORS[n]);
+        for (n, result) in VECTORS.into_iter().enumerate() {
+            assert_eq!(rt; siphash(&KEY, &MESSAGE[..n]), result);
         }
     }
 
@@ -112,8 +112,8 @@ mod tests {
     #[test]
     fn a_sealer_has_one_of_four_numbers(rt: HostRuntime) {
         for number in 0..=255u8 {
-            assert!(rt; SipSealer::new(number, KEYS).is_ok() == (number < 4));
-            assert!(rt; BenchSealer::new(number).is_ok() == (number < 4));
+            assert_eq!(rt; SipSealer::new(number, KEYS).is_ok(), number < 4);
+            assert_eq!(rt; BenchSealer::new(number).is_ok(), number < 4);
         }
     }
 
@@ -124,30 +124,14 @@ mod tests {
         let body = [9; 22];
         let tag = second.seal(&body);
         for signer in 0..=255u8 {
-            assert!(rt; client.check(signer, &body, tag) == (signer == 1));
+            assert_eq!(rt; client.check(signer, &body, tag), signer == 1);
         }
         assert!(rt; !client.check(1, &[8; 22], tag));
         assert!(rt; !client.check(1, &body, tag ^ 1));
         Ok(())
     }
 
-    // Three equal commits in one packet.
-    fn certificate(part: &[u8; 30]) -> [u8; 90] {
-        let mut bytes = [0; 90];
-        for i in 0..90usize {
-            bytes[i] = part[i % 30];
-        }
-        bytes
-    }
-
-    // The same with other seals from a place on.
-    fn spoiled(mut bytes: [u8; 90], place: usize) -> [u8; 90] {
-        for i in place..3 {
-            bytes[30 * i + 29] ^= 1;
-        }
-        bytes
-    }
-
+    // Three equal commits in one packet, and then under another seal in each from a place on.
     #[test]
     fn the_first_bad_seal_is_named(rt: HostRuntime) -> Result<(), Fail> {
         let commit = Statement {
@@ -160,13 +144,18 @@ mod tests {
             seal: 0,
         };
         let mut bench = BenchSealer::new(2)?;
-        let good = certificate(&sign(&mut bench, commit).write());
-        assert!(rt; open(&bench, Reader::Replica, &good).is_ok());
+        let good = sign(&mut bench, commit);
+        let bad = Statement {
+            seal: good.seal ^ 1,
+            ..good
+        };
+        let certificate = [good.write(); 3];
+        assert!(rt; open(&bench, Reader::Replica, certificate.as_flattened()).is_ok());
         for place in 0..3u32 {
-            match open(&bench, Reader::Replica, &spoiled(good, place as usize)) {
-                Ok(_) => assert!(rt; false),
-                Err(fault) => assert!(rt; fault == SealerFault::Seal { place }),
-            }
+            let mut spoiled = certificate;
+            spoiled[place as usize..].fill(bad.write());
+            let fault = open(&bench, Reader::Replica, spoiled.as_flattened()).err();
+            assert_eq!(rt; fault, Some(SealerFault::Seal { place }));
         }
         Ok(())
     }
