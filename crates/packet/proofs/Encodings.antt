@@ -3,7 +3,7 @@ use Rattle.std.proofs.Common.{◌≡◌, ℕ, ◌^◌, ◌<◌, Bool, true, fals
 use Rattle.std.proofs.lemmas.Bool.{cond-true, eqb-true}
 use Rattle.std.proofs.lemmas.Bool.Decides.{nat_tests}
 use Rattle.std.proofs.lemmas.List.{drop_more, drop_all, append-nil}
-use Rattle.std.specs.Option.{ok_or}
+use Rattle.std.specs.Option.{ok_or, option_and_then}
 use Rattle.std.specs.Int.Digits.{AllBelowBase}
 use Rattle.packet.specs.declared.kinds.Kind.{Kind}
 use Rattle.packet.specs.declared.kinds.Kind.TheVariants.{Order, Prepare, Commit, Report, Wish, Checkpoint, Answer}
@@ -11,15 +11,15 @@ use Rattle.packet.specs.declared.statements.Statement.{Statement}
 use Rattle.packet.specs.Digits.{bytes_of, number_at}
 use Rattle.packet.specs.Kinds.{byte_of, kind_of}
 use Rattle.packet.specs.Fields.{Fits, proper}
-use Rattle.packet.specs.Statements.{body, encode, decode, fields, if_proper, statement, then_some}
+use Rattle.packet.specs.Statements.{body, encode, decode, fields, if_proper, statement}
 use Rattle.packet.specs.Packets.{sealed_part}
 use Rattle.packet.specs.Laws.{OneEncoding, Sound}
 use Rattle.packet.proofs.Digits.{bytes_part, four_back, eight_back, number_small}
 
 -- options
-then_some_is : {X Y : Type 0} (o : Option X) (f : X → Option Y) (y : Y) → then_some o f ≡ Some y → (x : X) × (o ≡ Some x) × (f x ≡ Some y)
-then_some_is (Some x) f y e = (x, refl, e)
-then_some_is None f y e = let z : ◌≡◌ {A = ℕ} 0 1 = cc in absurd (omega arith)
+and_then_some : {X Y : Type 0} (o : Option X) (f : X → Option Y) (y : Y) → option_and_then f o ≡ Some y → (x : X) × (o ≡ Some x) × (f x ≡ Some y)
+and_then_some (Some x) f y e = (x, refl, e)
+and_then_some None f y e = let z : ◌≡◌ {A = ℕ} 0 1 = cc in absurd (omega arith)
 
 cond_some : {X : Type 0} (b : Bool) (o : Option X) (x : X) → cond b o None ≡ Some x → (b ≡ true) × (o ≡ Some x)
 cond_some true o x e = (refl, e)
@@ -60,7 +60,7 @@ same_encoding r s f t g u e =
 pub reads_back : (s : Statement) → Sound s → decode (encode s) ≡ Some s
 unfolding decode encode body
 reads_back s g =
-    ap (λ o. then_some o (λ k. if_proper (fields k (encode s)))) (kind_back s.kind) ∙ (ap if_proper (fields_back s g) ∙ cond-true (proper s) _ _ g.kept)
+    ap (option_and_then (λ k. if_proper (fields k (encode s)))) (kind_back s.kind) ∙ (ap if_proper (fields_back s g) ∙ cond-true (proper s) _ _ g.kept)
 
 -- what is read writes back
 kind_there : (b : ℕ) (k : Kind) → kind_of b ≡ Some k → byte_of k ≡ b
@@ -106,7 +106,7 @@ unfolding decode
 writes_back bs s u e =
     let a = cond_some (eqb (length bs) 30) _ s e in
     let len = eqb-true (length bs) 30 a.0 in
-    let b = then_some_is (kind_of (get_or bs 0 0)) (λ k. if_proper (fields k bs)) s a.1 in
+    let b = and_then_some (kind_of (get_or bs 0 0)) (λ k. if_proper (fields k bs)) s a.1 in
     let d = sound_at b.0 bs s u len b.2 in
     (ap encode (sym d.0) ∙ fields_there b.0 bs u len (kind_there (get_or bs 0 0) b.0 b.1), d.1)
 

@@ -15,10 +15,10 @@ byte_of Wish = 0x57
 byte_of Checkpoint = 0x4B
 byte_of Answer = 0x41
 
--- the kind that a first byte names
 abbrev if_byte : Kind → ℕ → Option Kind → Option Kind
 if_byte k b other = cond (b == byte_of k) (Some k) other
 
+-- the kind that a first byte names
 abbrev pub kind_of : ℕ → Option Kind
 kind_of b = if_byte Order b (if_byte Prepare b (if_byte Commit b (if_byte Report b (if_byte Wish b (if_byte Checkpoint b (if_byte Answer b None))))))
 

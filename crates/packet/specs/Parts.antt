@@ -1,4 +1,4 @@
--- Parts that are checked in their order.
+-- Parts of thirty bytes, and checking them in their order.
 use Rattle.std.specs.Prelude.{◌≡◌, ℕ, ◌+◌, Bool, true, false, cond, List, [], ◌∷◌, take, drop, is_some, Ok, Err, Option, Result, slice_index_or}
 use Rattle.std.specs.List.{AllByRecursion}
 use Rattle.refusal.specs.declared.packets.PacketFault.{PacketFault}

@@ -1,6 +1,6 @@
 -- The thirty bytes of a statement.
 use Rattle.std.specs.Prelude.{ℕ, cond, List, ◌∷◌, ◌++◌, length, Some, None, Option, Result, ◌==◌, slice_index}
-use Rattle.std.specs.Option.{ok_or}
+use Rattle.std.specs.Option.{ok_or, option_and_then}
 use Rattle.packet.specs.declared.kinds.Kind.{Kind}
 use Rattle.packet.specs.declared.statements.Statement.{Statement}
 use Rattle.refusal.specs.declared.packets.PacketFault.{PacketFault}
@@ -27,13 +27,9 @@ fields k bs = statement k (slice_index bs 1) (number_at 4 bs 2) (number_at 4 bs 
 abbrev pub if_proper : Statement → Option Statement
 if_proper s = cond (proper s) (Some s) None
 
-abbrev pub then_some : {X Y : Type 0} → Option X → (X → Option Y) → Option Y
-then_some None f = None
-then_some (Some x) f = f x
-
 -- the proper statement that some bytes hold
 unfoldable pub decode : List ℕ → Option Statement
-decode bs = cond (length bs == 30) (then_some (kind_of (slice_index bs 0)) (λ k. if_proper (fields k bs))) None
+decode bs = cond (length bs == 30) (option_and_then (λ k. if_proper (fields k bs)) (kind_of (slice_index bs 0))) None
 
 -- the same at a place of a packet, where anything else is refused
 abbrev pub read_at : ℕ → List ℕ → Result Statement PacketFault

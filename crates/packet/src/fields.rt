@@ -16,7 +16,8 @@ pub struct View(pub u32);
 #[derive(Clone, Copy, PartialEq, Eq, PartialOrd, Debug)]
 pub struct Slot(pub u32);
 
-// `is_valid` stands for each of the two: a trait over both would be longer than the two lines, and every caller would import it.
+// `is_valid` is written for each of the two types: a trait over both would be longer than two lines, and every caller would
+// import it.
 impl View {
     // Whether there is a view of this number.
     pub fn is_valid(self) -> bool

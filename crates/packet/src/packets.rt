@@ -1,8 +1,7 @@
 // A packet: one or more whole statements, read over the lent bytes.
-ghost use Rattle.std.specs.Prelude.{◌≡◌, ◌+◌, ◌^◌, ◌<◌, length};
+ghost use Rattle.std.specs.Prelude.{◌≡◌, ◌<◌, length};
 ghost use Rattle.packet.specs.Laws.{OnePacket, Reading};
 ghost use Rattle.packet.specs.Packets.{takes, has_length, first_kind, read_parts, read_packet, sealed_part, seen, seen_sealed};
-ghost use Rattle.packet.specs.Parts.{check_statements, statement_at};
 
 use super::kinds::Kind;
 use super::parts::Parts;

@@ -5,7 +5,7 @@ ghost use Rattle.packet.specs.Parts.{check_statements, statement_at};
 use super::statements::Statement;
 use refusal::PacketFault;
 
-// Whole statements, one behind the other. No packet and no proof has more than thirteen.
+// Pieces of thirty bytes, each of which is a statement once it was read. No packet and no proof has more than thirteen.
 #[derive(Clone, Copy)]
 pub struct Parts<'a> {
     pub bytes: &'a [[u8; 30]],
@@ -13,14 +13,14 @@ pub struct Parts<'a> {
 }
 
 impl Parts<'_> {
-    // How many statements there are.
+    // How many parts there are.
     pub fn count(&self) -> usize
         ensures { result ≡ length self.now.bytes.now }
     {
         self.bytes.len()
     }
 
-    // The statement at a place, counted from 0; none past the last.
+    // The statement at a place, counted from 0; none past the last part.
     #[tactic(auto, using(std::proofs::lemmas::List::get_or_past), unfolding(crate::specs::Statements::decode))]
     pub fn statement(&self, place: usize) -> Option<Statement>
         ensures { result ≡ statement_at self.now.bytes.now place }

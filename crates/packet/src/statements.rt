@@ -31,7 +31,7 @@ pub(crate) fn field<const N: usize>(bytes: &[u8; 30], at: usize) -> [u8; N]
     *field
 }
 
-// Promises that each number fits the bytes that it has, which its type says of a value in hand, and does nothing.
+// A number of 32 bits fits four bytes, and one of 64 bits eight. It does nothing: it hands that fact to whoever calls it.
 fn fit(statement: Statement)
     ensures fits { Fits statement }
     ensures seal { statement.seal < 256 ^ 8 }

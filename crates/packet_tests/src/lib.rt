@@ -4,10 +4,8 @@
 
 #[cfg(test)]
 mod tests {
-    use packet::{Kind, Reader, Slot, Statement, UnknownKind, View, read_packet};
+    use packet::{Kind, Reader, Slot, Statement, View, read_packet};
     use refusal::PacketFault;
-    use std::io::Write;
-    use std::test::Fail;
 
     // The fields of a statement without its seal, and whether they are proper.
     struct Row(Kind, u8, u32, u32, u32, u64, bool);
@@ -158,14 +156,6 @@ mod tests {
                 assert_eq!(rt; refused(reader, &[byte]), expected);
             }
         }
-    }
-
-    #[test]
-    fn an_unknown_kind_prints_its_byte(rt: HostRuntime) -> Result<(), Fail> {
-        let mut text = [0; 44];
-        write!(&mut text[..], "{}", UnknownKind(0x58))?;
-        assert_eq!(rt; text, *b"no kind of statement begins with the byte 88");
-        Ok(())
     }
 
     // The longest packet, of thirteen equal statements, and then with a signer that there is not in each from a place on.

@@ -1,4 +1,7 @@
 // What a refusal tells: its number, its layer and, for some, the place of a statement.
+ghost use Rattle.std.specs.Prelude.{Some};
+ghost use Rattle.refusal.specs.Texts.{layer_text, refusal_text};
+
 use std::fmt;
 
 // The part of the core that refused.
@@ -20,6 +23,8 @@ pub struct Refusal {
 }
 
 impl fmt::Display for Layer {
+    ghost output = { λ layer. Some (layer_text layer) };
+
     fn fmt<W: fmt::Write>(&self, f: &mut fmt::Formatter<W>) -> fmt::Result {
         let name = match self {
             Layer::Packet => "packet",
@@ -33,6 +38,8 @@ impl fmt::Display for Layer {
 }
 
 impl fmt::Display for Refusal {
+    ghost output = { λ refusal. Some (refusal_text refusal) };
+
     fn fmt<W: fmt::Write>(&self, f: &mut fmt::Formatter<W>) -> fmt::Result {
         let number = self.number;
         let layer = self.layer;

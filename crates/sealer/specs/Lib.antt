@@ -1,3 +1,4 @@
+pub mod Numbers
 pub mod Siphash
 pub mod Seals
 pub mod Sealers

@@ -11,15 +11,9 @@ tag_genuine tag i body t = nat_le i 3 && t == tag i body
 abbrev pub sip_tag : List (List ℕ) → ℕ → List ℕ → ℕ
 sip_tag keys i body = siphash (slice_index_or keys i []) body
 
-abbrev pub sip_genuine : List (List ℕ) → Meaning
-sip_genuine keys = tag_genuine (sip_tag keys)
-
 -- each byte makes the tag m into 31 m + byte, from 0 on
 abbrev pub bench_step : ℕ → ℕ → ℕ
 bench_step m b = (31 * m + b) % 2 ^ 64
 
 unfoldable pub bench_tag : List ℕ → ℕ
 bench_tag body = fold bench_step 0 body
-
-abbrev pub bench_genuine : Meaning
-bench_genuine = tag_genuine (λ _. bench_tag)

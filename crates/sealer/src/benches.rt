@@ -1,20 +1,23 @@
 // The tags of a closed bench, which anyone can make, and which are easy to follow by hand.
-ghost use Rattle.std.specs.Prelude.{◌≡◌, ◌<◌, ◌≤◌, MatchResult};
-ghost use Rattle.refusal.specs.declared.sealers.SealerFault.TheVariants as fault;
+ghost use Rattle.std.specs.Prelude.{◌≡◌};
+ghost use Rattle.sealer.specs.Numbers.{Made};
 ghost use Rattle.sealer.specs.Sealers.{bench_tag};
 
-use super::numbers::Number;
+use super::numbers::ReplicaNumber;
 use super::tags::{TagSealer, Tags};
 use refusal::SealerFault;
 
+// Tags by the bytes alone: every replica's tag of a body is the same.
 #[derive(Drop)]
 pub struct BenchTags;
 
+// The sealer of a closed bench.
 pub type BenchSealer = TagSealer<BenchTags>;
 
 impl TagSealer<BenchTags> {
+    // The sealer of one replica.
     pub fn new(number: u8) -> Result<BenchSealer, SealerFault>
-        ensures { MatchResult result (λ s. (number < 4) × (s.number.value ≡ number)) (λ e. (4 ≤ number) × (e ≡ fault.Number)) }
+        ensures { Made number (λ s. s.number.value ≡ number) result }
     {
         TagSealer::with_tags(number, BenchTags)
     }
@@ -33,7 +36,7 @@ fn bench_tag(body: &[u8; 22]) -> u64
 impl Tags for BenchTags {
     ghost tagged = { λ _ _. bench_tag };
 
-    fn tag(&self, _signer: Number, body: &[u8; 22]) -> u64 {
+    fn tag(&self, _signer: ReplicaNumber, body: &[u8; 22]) -> u64 {
         bench_tag(body)
     }
 }

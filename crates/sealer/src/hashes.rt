@@ -47,28 +47,26 @@ impl State {
     }
 
     #[tactic(auto, unfolding(crate::specs::Siphash::compressed))]
-    fn compress(self, word: u64) -> State
+    fn compress(mut self, word: u64) -> State
         ensures { result ≡ compressed self word }
     {
-        let mut s = self;
-        s.v3 ^= word;
-        s = s.round().round();
+        self.v3 ^= word;
+        let mut s = self.round().round();
         s.v0 ^= word;
         s
     }
 
     #[tactic(auto, unfolding(crate::specs::Siphash::finished))]
-    fn finish(self) -> u64
+    fn finish(mut self) -> u64
         ensures { result ≡ finished self }
     {
-        let mut s = self;
-        s.v2 ^= 0xff;
-        let s = s.round().round().round().round();
+        self.v2 ^= 0xff;
+        let s = self.round().round().round().round();
         s.v0 ^ s.v1 ^ s.v2 ^ s.v3
     }
 }
 
-// A word of a message, low byte first.
+// Eight bytes as a word, low byte first.
 #[tactic(auto, using(crate::proofs::Words::word_is))]
 fn word(bytes: &[u8; 8]) -> u64
     ensures { result ≡ low 8 bytes.now 0 }
@@ -77,7 +75,7 @@ fn word(bytes: &[u8; 8]) -> u64
 }
 
 // The bytes past the last whole word, with the message's length modulo 256 in the top byte.
-fn last_word(rest: &[u8], total: usize) -> u64
+fn tail_word(rest: &[u8], total: usize) -> u64
     requires { length rest.now ≤ 7 }
     ensures { result ≡ low 7 rest.now 0 + total % 256 * 2 ^ 56 }
 {
@@ -87,6 +85,7 @@ fn last_word(rest: &[u8], total: usize) -> u64
     word(&bytes)
 }
 
+// The 64-bit result for a key of sixteen bytes and a message of any length.
 pub fn siphash(key: &[u8; 16], bytes: &[u8]) -> u64
     ensures { result ≡ siphash key.now bytes.now }
 {
@@ -96,5 +95,5 @@ pub fn siphash(key: &[u8; 16], bytes: &[u8]) -> u64
     for next in words {
         s = s.compress(word(next));
     }
-    s.compress(last_word(rest, bytes.len())).finish()
+    s.compress(tail_word(rest, bytes.len())).finish()
 }

@@ -13,7 +13,7 @@ mod tags;
 pub use benches::{BenchSealer, BenchTags};
 pub use hashes::siphash;
 pub use keyed::{SipSealer, SipTags};
-pub use numbers::Number;
+pub use numbers::ReplicaNumber;
 pub use proofs::open_proof;
 pub use sealers::{Sealer, open, sign};
 pub use tags::{TagSealer, Tags};

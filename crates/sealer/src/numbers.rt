@@ -1,29 +1,31 @@
 // The number of a replica, which is one of four.
-ghost use Rattle.std.specs.Prelude.{◌≡◌, ◌<◌, ◌≤◌, MatchResult};
-ghost use Rattle.refusal.specs.declared.sealers.SealerFault.TheVariants as fault;
+ghost use Rattle.std.specs.Prelude.{◌≡◌, ◌<◌};
+ghost use Rattle.sealer.specs.Numbers.{Made};
 
 use refusal::SealerFault;
 
+// Whoever holds one need not ask again whether there is such a replica.
 #[derive(Clone, Copy)]
-pub struct Number {
+pub struct ReplicaNumber {
     value: u8,
     ghost known: { value < 4 },
 }
 
-impl TryFrom<u8> for Number {
+impl TryFrom<u8> for ReplicaNumber {
     type Error = SealerFault;
 
-    ghost try_from_gives = { λ value r. MatchResult r (λ n. (value < 4) × (n.value ≡ value)) (λ e. (4 ≤ value) × (e ≡ fault.Number)) };
+    ghost try_from_gives = { λ value r. Made value (λ number. number.value ≡ value) r };
 
-    fn try_from(value: u8) -> Result<Number, SealerFault> {
+    fn try_from(value: u8) -> Result<ReplicaNumber, SealerFault> {
         if value > 3 {
             return Err(SealerFault::Number);
         }
-        Ok(Number { value })
+        Ok(ReplicaNumber { value })
     }
 }
 
-impl Number {
+impl ReplicaNumber {
+    // The number as a byte.
     pub fn value(self) -> u8
         ensures { result ≡ self.value }
     {

@@ -7,7 +7,7 @@ use super::sealers::{Sealer, check_seals};
 use packet::{Parts, read_proof};
 use refusal::SealerFault;
 
-// The statements in these bytes, if they have a proof's length and every seal in them is genuine.
+// The statements in these bytes, if they have a proof's length, each is proper, and every seal in them is genuine.
 #[tactic(auto, using(crate::proofs::Runs::one_proof_opening), unfolding(crate::specs::Proofs::open_proof))]
 pub fn open_proof<'a, S: Sealer>(sealer: &S, bytes: &'a [u8]) -> Result<Parts<'a>, SealerFault>
     ensures exact { seen_proof result ≡ open_proof (S.genuine sealer.now) bytes.now }

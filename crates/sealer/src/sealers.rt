@@ -1,5 +1,5 @@
 // What a sealer is, and what any sealer serves for: to sign a statement, and to open a packet.
-ghost use Rattle.std.specs.Prelude.{◌≡◌, ℕ, ◌<◌, Bool, true, List};
+ghost use Rattle.std.specs.Prelude.{◌≡◌, ℕ, ◌<◌, true};
 ghost use Rattle.packet.specs.Packets.{seen};
 ghost use Rattle.sealer.specs.Laws.{OneOpening, Opening};
 ghost use Rattle.sealer.specs.Seals.{Meaning, Signed, check_seals, open_packet};
@@ -37,11 +37,14 @@ pub fn sign<S: Sealer>(sealer: &mut S, statement: Statement) -> Statement
     ensures number { S.own sealer.new ≡ S.own sealer.old }
     ensures meaning { S.genuine sealer.new ≡ S.genuine sealer.old }
 {
-    let mut signed = statement;
-    signed.signer = sealer.number();
-    let body = signed.body();
-    signed.seal = sealer.seal(&body);
-    signed
+    let signed = Statement {
+        signer: sealer.number(),
+        ..statement
+    };
+    Statement {
+        seal: sealer.seal(&signed.body()),
+        ..signed
+    }
 }
 
 // Checks every seal, and refuses the first that is not genuine.

@@ -1,34 +1,35 @@
 // A sealer whose seal is a tag of the bytes under the signer's number, whatever the tags are made by.
-ghost use Rattle.std.specs.Prelude.{◌≡◌, ℕ, ◌<◌, ◌≤◌, List, MatchResult};
-ghost use Rattle.refusal.specs.declared.sealers.SealerFault.TheVariants as fault;
+ghost use Rattle.std.specs.Prelude.{◌≡◌, ℕ, List};
+ghost use Rattle.sealer.specs.Numbers.{Made};
 ghost use Rattle.sealer.specs.Sealers.{tag_genuine};
 ghost use Rattle.std.proofs.Common.{rules};
 
-use super::numbers::Number;
+use super::numbers::ReplicaNumber;
 use super::sealers::Sealer;
 use refusal::SealerFault;
 
-// What makes a group's tags. Replicas and clients of one group make the same.
+// What makes a group's tags. Replicas and clients of one group make the same. They go with the sealer that holds them.
 pub trait Tags: Drop {
     // The tag of some bytes under a replica's number.
     ghost tagged: { Self → ℕ → List ℕ → ℕ };
 
-    fn tag(&self, signer: Number, body: &[u8; 22]) -> u64
+    fn tag(&self, signer: ReplicaNumber, body: &[u8; 22]) -> u64
         ensures { result ≡ tagged self.now signer.value body.now };
 }
 
+// One replica's sealer. What is genuine under it is the tag, and nothing else.
 #[derive(Drop)]
 pub struct TagSealer<T: Tags> {
-    number: Number,
+    number: ReplicaNumber,
     tags: T,
 }
 
 impl<T: Tags> TagSealer<T> {
-    // The sealer of one replica, with the tags of its group.
+    // The sealer of one replica, with the tags of its group; a number above 3 is refused.
     pub fn with_tags(number: u8, tags: T) -> Result<TagSealer<T>, SealerFault>
-        ensures { MatchResult result (λ s. (number < 4) × (s.number.value ≡ number) × (s.tags ≡ tags)) (λ e. (4 ≤ number) × (e ≡ fault.Number)) }
+        ensures { Made number (λ s. (s.number.value ≡ number) × (s.tags ≡ tags)) result }
     {
-        let number = Number::try_from(number)?;
+        let number = ReplicaNumber::try_from(number)?;
         Ok(TagSealer { number, tags })
     }
 }
@@ -49,9 +50,6 @@ impl<T: Tags> Sealer for TagSealer<T> {
     }
 
     fn check(&self, signer: u8, body: &[u8; 22], tag: u64) -> bool {
-        match Number::try_from(signer) {
-            Ok(signer) => tag == self.tags.tag(signer, body),
-            Err(_) => false,
-        }
+        ReplicaNumber::try_from(signer).is_ok_and(|signer| tag == self.tags.tag(signer, body))
     }
 }

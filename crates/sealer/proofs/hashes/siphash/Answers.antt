@@ -24,7 +24,7 @@ unfolding siphash
 returns c =
     let bs = c.args.bytes.now in
     let n : c.loop-next.next-index ≡ length bs / 8 = omega (arith, c.as_chunks-2.ensures.front_len) in
-    let l = c.last_word.ensures ∙ last_is bs c.as_chunks-2.result.1.now c.as_chunks-2.ensures.back in
+    let l = c.tail_word.ensures ∙ last_is bs c.as_chunks-2.result.1.now c.as_chunks-2.ensures.back in
     let k = keyed (low 8 c.args.key.now 0) (low 8 c.args.key.now 8) in
     let s = c.loop-next.invariant ∙ ap (absorbed k bs) n in
-    c.finish.ensures ∙ ap finished (c.compress.ensures ∙ (ap (λ s. compressed s c.last_word.result) s ∙ ap (compressed (absorbed k bs (length bs / 8))) l))
+    c.finish.ensures ∙ ap finished (c.compress.ensures ∙ (ap (λ s. compressed s c.tail_word.result) s ∙ ap (compressed (absorbed k bs (length bs / 8))) l))

@@ -1,7 +1,7 @@
 use Rattle.std.proofs.Common.{◌%◌, ◌++◌, length, set, drop, ap, ◌∙◌}
 use Rattle.sealer.specs.Siphash.{low}
 use Rattle.sealer.proofs.Words.{last_bytes, nils}
-use Rattle.sealer.proofs.hashes.last_word.Goals as goal
+use Rattle.sealer.proofs.hashes.tail_word.Goals as goal
 
 pub returns : goal.returns
 returns c =
