@@ -69,6 +69,7 @@ mod tests {
         assert!(rt; Waiting::new(Slot(4_000_000_001)).is_err());
     }
 
+    // The number of the refusal; 0, as the lines below have it, where the answer is kept.
     fn refused(waiting: &mut Waiting, bytes: &[u8]) -> Result<u8, Fail> {
         let client = BenchSealer::new(0)?;
         match waiting.add(&client, bytes) {

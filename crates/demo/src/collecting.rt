@@ -16,6 +16,7 @@ const BOOKING: u64 = 0x421E_0500_0000_0000;
 
 // Three replicas' services carry out the command of a slot, and each replica has its answer.
 fn answers<V: Service>(services: &mut [V; 3], slot: Slot, command: u64) -> [Answer; 3] {
+    // By index, since arrays have no `each_mut` here.
     array::from_fn(|i| Answer {
         replica: i as u8,
         slot,

@@ -8,7 +8,7 @@ use super::fields::{Slot, View};
 use super::kinds::Kind;
 use refusal::PacketFault;
 
-// What one replica says under its seal.
+// What one replica says under its seal. As on the wire, view 0 as the earlier view names none.
 #[derive(Clone, Copy, PartialEq, Eq, Debug)]
 pub struct Statement {
     pub kind: Kind,

@@ -114,7 +114,7 @@ mod tests {
         Form(0x41, false, true, &[30]),
     ];
 
-    // The number of the refusal; 0 where the packet is accepted.
+    // The number of the refusal; 0, as the tables have it, where the packet is accepted.
     fn refused(reader: Reader, bytes: &[u8]) -> u8 {
         read_packet(reader, bytes)
             .err()

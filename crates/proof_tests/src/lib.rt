@@ -60,7 +60,7 @@ mod tests {
         Ok(bytes)
     }
 
-    // The number of the refusal; 0 where the packet passes.
+    // The number of the refusal; 0, as the tables have it, where the packet passes.
     fn refused(sealer: &BenchSealer, bytes: &[u8]) -> u8 {
         match check_packet(sealer, bytes) {
             Ok(_) => 0,

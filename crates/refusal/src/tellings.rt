@@ -14,7 +14,8 @@ pub enum Layer {
     Collector,
 }
 
-// The place counts statements from 0, in the packet or in the proof that was handed in.
+// What is shown of a fault: the number is for people, code matches on the fault itself. The place counts statements from 0, in the
+// packet or in the proof that was handed in.
 #[derive(Clone, Copy, PartialEq, Eq, Debug)]
 pub struct Refusal {
     pub number: u8,

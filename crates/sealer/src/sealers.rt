@@ -47,7 +47,8 @@ pub fn sign<S: Sealer>(sealer: &mut S, statement: Statement) -> Statement
     }
 }
 
-// Checks every seal, and refuses the first that is not genuine.
+// Checks every seal, and refuses the first that is not genuine. `Parts::check_from` walks alike: one walk for both would be a public
+// function that requires something of its closure.
 pub(crate) fn check_seals<S: Sealer>(sealer: &S, parts: &Parts<'_>) -> Result<(), SealerFault>
     ensures { result ≡ check_seals (S.genuine sealer.now) 0 parts.now.bytes.now }
 {

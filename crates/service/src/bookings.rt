@@ -14,7 +14,7 @@ const BOOK: u8 = 0x42;
 // The first byte of a command that frees a place.
 const FREE: u8 = 0x46;
 
-// The holder of a free place.
+// The holder of a free place. A host keeps the holders as bytes, so it is a byte too, and no `None`.
 const NOBODY: u8 = 0;
 
 // What a command asks for.
@@ -30,6 +30,7 @@ impl TryFrom<u64> for Request {
     ghost try_from_gives = { λ command r. r ≡ read_as request_of command };
 
     fn try_from(command: u64) -> Result<Request, UnknownCommand> {
+        // One arm for both kinds would need a second match on the kind.
         match command.to_be_bytes() {
             [BOOK, place @ 0..=31, holder @ 1..=255, 0, 0, 0, 0, 0] => {
                 Ok(Request::Book { place, holder })
@@ -61,7 +62,7 @@ impl Booking {
         }
     }
 
-    // A booking service in the state that a host kept.
+    // A booking service in the state that a host kept. The recorder has the like, in its own words: what they share is one line each.
     pub fn with_holders(holders: [u8; 32]) -> Booking
         ensures { result.holders ≡ holders }
     {

@@ -15,5 +15,5 @@ pub use commands::UnknownCommand;
 pub use recorders::{Channel, Recorder, Sample};
 pub use services::{Service, apply_all};
 
-// The answer to a command that a service does not carry out.
+// The answer to a command that a service does not carry out. It is a number, since answers go over the bus as eight bytes.
 pub const REFUSED: u64 = u64::MAX;

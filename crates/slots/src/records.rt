@@ -2,7 +2,8 @@
 // its own memory. Where something may be missing an accessor answers an `Option`.
 use packet::View;
 
-// The seals of votes by signer, where `held`.
+// The seals of votes by signer, where `held`. A C++ host holds them, so the flags are no `Option`s; two arrays take 40 bytes, four
+// places of a flag and a seal would take 64.
 #[repr(C)]
 #[derive(Clone, Copy)]
 pub struct Votes {
@@ -10,7 +11,7 @@ pub struct Votes {
     pub seals: [u64; 4],
 }
 
-// A certificate: a view, a command and three seals. View 0 stands for none.
+// A certificate: a view, a command and three seals. View 0 stands for none, since a C++ host can hold no `Option`.
 #[repr(C)]
 #[derive(Clone, Copy)]
 pub struct Certificate {
@@ -20,7 +21,7 @@ pub struct Certificate {
 }
 
 // The order accepted in the present view, where `ordered`, with its votes; the certificate of the latest view in which the
-// slot was prepared; the certificate of the decision.
+// slot was prepared; the certificate of the decision. `ordered` is a flag for a C++ host, as `held` is.
 #[repr(C)]
 #[derive(Clone, Copy)]
 pub struct Record {
