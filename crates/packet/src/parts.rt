@@ -1,15 +1,15 @@
 // The lent bytes of a packet's or a proof's statements.
-ghost use Rattle.std.specs.Prelude.{◌≡◌, ◌≤◌, length, drop};
+ghost use Rattle.std.specs.Prelude.{◌≡◌, ◌^◌, ◌<◌, ◌≤◌, length, drop};
 ghost use Rattle.packet.specs.Parts.{check_statements, statement_at};
 
 use super::statements::Statement;
 use refusal::PacketFault;
 
-// Pieces of thirty bytes, each of which is a statement once it was read. No packet and no proof has more than thirteen.
+// Pieces of thirty bytes, each of which is a statement once it was read. The place of each fits the `u32` that a refusal has for it.
 #[derive(Clone, Copy)]
 pub struct Parts<'a> {
     pub bytes: &'a [[u8; 30]],
-    ghost few: { length bytes.now ≤ 13 },
+    ghost placed: { length bytes.now < 2 ^ 32 },
 }
 
 impl Parts<'_> {

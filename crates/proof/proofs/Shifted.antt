@@ -210,3 +210,13 @@ module _ (v n : ℕ) where
   pub backing_behind : (c : ℕ) (ps rest : List (List ℕ)) → 0 < length ps → rest ≡ take (length ps - 1) (drop 1 ps) → check_backing v n c rest 0 ≡ check_backing v n c ps 1
   backing_behind c [] rest h e = absurd (omega arith)
   backing_behind c (p ∷ ps) rest h e = ap (λ t. check_backing v n c t 0) (e ∙ take_rest (p ∷ ps) 1) ∙ sym (backing_alike p ps v n c)
+
+-- where not even the order stands, nothing backs it
+pub backing_none : (v n c : ℕ) (ps : List (List ℕ)) → length ps ≡ 0 → check_backing v n c ps 1 ≡ Err Rule
+unfolding check_backing check_reports report_at decode
+backing_none v n c [] h = by_view (eqb v 1)
+  where
+    by_view : (b : Bool) → cond b (holds (eqb 0 1)) (Err Rule) ≡ Err Rule
+    by_view true = refl
+    by_view false = refl
+backing_none v n c (p ∷ ps) h = absurd (omega arith)

@@ -1,5 +1,5 @@
 // What a replica takes, and what a primary is handed: statements under genuine seals that keep the rules together.
-ghost use Rattle.std.specs.Prelude.{◌≡◌, ◌<◌, length};
+ghost use Rattle.std.specs.Prelude.{◌≡◌};
 ghost use Rattle.proof.specs.Checks.{check_packet, check_proof, check_rule};
 ghost use Rattle.packet.specs.Packets.{seen};
 ghost use Rattle.proof.specs.Laws.{FeedsAgreement, PacketsKeep, ProofsKeep, RestAlike};
@@ -10,15 +10,17 @@ use packet::{Kind, Packet, Reader};
 use refusal::ProofFault;
 use sealer::{Sealer, open, open_proof};
 
-#[tactic(auto, using(crate::proofs::Shifted::backing_behind))]
+#[tactic(auto, using(crate::proofs::Shifted::backing_behind, crate::proofs::Shifted::backing_none))]
 fn check_rule(packet: &Packet<'_>) -> Result<(), ProofFault>
-    requires { 0 < length packet.now.parts.bytes.now }
     ensures { result ≡ check_rule packet.now.first packet.now.parts.bytes.now }
 {
     let choice = Choice::from(&packet.first);
     let parts = packet.parts.bytes;
     match packet.first.kind {
-        Kind::Order => choice.check_backing(&parts[1..]),
+        Kind::Order => match parts {
+            [_, behind @ ..] => choice.check_backing(behind),
+            [] => Err(ProofFault::Rule),
+        },
         Kind::Commit => rule(parts.len() == 1 || choice.is_decided(parts)),
         Kind::Prepare | Kind::Report | Kind::Wish | Kind::Checkpoint | Kind::Answer => Ok(()),
     }
