@@ -16,7 +16,7 @@ pub fn primary(view: View) -> u8
 pub fn spare(view: View) -> u8
     ensures { result ≡ spare view.0 }
 {
-    ((view.0 as u64 + 2) % 4) as u8
+    ((u64::from(view.0) + 2) % 4) as u8
 }
 
 // The replicas but one, by rising number.
