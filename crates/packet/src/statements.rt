@@ -31,12 +31,6 @@ pub(crate) fn field<const N: usize>(bytes: &[u8; 30], at: usize) -> [u8; N]
     *field
 }
 
-// A number of 32 bits fits four bytes, and one of 64 bits eight. It does nothing: it hands that fact to whoever calls it.
-fn fit(statement: Statement)
-    ensures fits { Fits statement }
-    ensures seal { statement.seal < 256 ^ 8 }
-{}
-
 impl Statement {
     // The 22 bytes that the seal covers.
     #[tactic(auto, using(crate::proofs::Digits::four_written, crate::proofs::Digits::eight_written), unfolding(crate::specs::Statements::body))]
@@ -102,3 +96,9 @@ impl Statement {
         Statement::decode(bytes).ok_or(PacketFault::Statement { place })
     }
 }
+
+// A number of 32 bits fits four bytes, and one of 64 bits eight. It does nothing: it hands that fact to whoever calls it.
+fn fit(statement: Statement)
+    ensures fits { Fits statement }
+    ensures seal { statement.seal < 256 ^ 8 }
+{}
