@@ -7,6 +7,7 @@ ghost use Rattle.agreement.specs.Traces.{InSoundGroups, UnderRules};
 ghost use Rattle.agreement.specs.Example.{RulesKept};
 
 // Two quorums of a group share a correct replica.
+#[tactic(auto, using(crate::proofs::Groups::quorums_overlap))]
 pub fn quorums_overlap()
     ensures { InSoundGroups QuorumsOverlap }
 {}
@@ -17,6 +18,7 @@ pub fn certificates_agree()
 {}
 
 // What is settled in a view binds every later vote, and every certificate and commit from that view on.
+#[tactic(auto, using(crate::proofs::Laws::settled_binds))]
 pub fn settled_binds()
     ensures { UnderRules SettledBinds }
 {}
@@ -32,6 +34,7 @@ pub fn decisions_form_one_list()
 {}
 
 // The rules can be kept with a liar in the group, and a command be settled under them, in more than one view.
+#[tactic(auto, using(crate::proofs::Example::rules_kept))]
 pub fn rules_can_be_kept()
     ensures { RulesKept }
 {}

@@ -1,6 +1,6 @@
 // Marks of a service's state, each with the slot after which it was read.
 ghost use Rattle.std.specs.Prelude.{◌≡◌, map};
-ghost use Rattle.ballot.specs.Counting.{count_of};
+ghost use Rattle.ballot.specs.Counting.{Counting, count_of};
 ghost use Rattle.ballot.specs.Marks.{held_mark, same_mark};
 
 use crate::count;
@@ -38,7 +38,8 @@ impl MarkBallot {
 
 // How many places of a row hold this mark.
 pub fn count_marks(row: &[MarkBallot; 4], mark: &Mark) -> usize
-    ensures { result ≡ count_of same_mark (map held_mark row.now) mark.now }
+    ensures value { result ≡ count_of same_mark (map held_mark row.now) mark.now }
+    ensures laws { Counting same_mark }
 {
     count(&row.map(MarkBallot::held_mark), mark)
 }

@@ -1,11 +1,11 @@
 // A collector is `Waiting` while it takes answers, and `Closed` once two results agree. Both are plain values that move: there
 // is no result to read before the close, and nothing takes an answer after it.
-ghost use Rattle.std.specs.Prelude.{◌≡◌, ◌<◌, Some};
+ghost use Rattle.std.specs.Prelude.{◌≡◌};
 ghost use Rattle.collector.specs.Laws.{ClosesExactly};
-ghost use Rattle.collector.specs.Collectors.{new_waiting, check_answer, with_result, added, agreed_result, closing};
+ghost use Rattle.collector.specs.Collectors.{new_waiting, added, agreed_result, closing};
 
 use ballot::count;
-use packet::{Reader, Slot, Statement};
+use packet::{Reader, Slot};
 use refusal::CollectorFault;
 use sealer::{Sealer, open};
 
@@ -44,37 +44,24 @@ impl Waiting {
         })
     }
 
-    fn check(&self, answer: Statement) -> Result<(), CollectorFault>
-        requires { answer.signer < 4 }
-        ensures { result ≡ check_answer self.now answer }
-    {
-        if answer.slot != self.slot {
-            return Err(CollectorFault::Slot);
-        }
-        match self.results[usize::from(answer.signer)] {
-            None => Ok(()),
-            Some(kept) if kept != answer.command => Err(CollectorFault::Unlike),
-            Some(_) => Err(CollectorFault::Held),
-        }
-    }
-
-    fn keep(&mut self, answer: Statement)
-        requires { answer.signer < 4 }
-        ensures { self.new ≡ with_result self.old answer }
-    {
-        self.results[usize::from(answer.signer)] = Some(answer.command);
-    }
-
     // Takes a replica's answer, if it is under a genuine seal, for this slot and the first of its signer.
     pub fn add<S: Sealer>(&mut self, sealer: &S, bytes: &[u8]) -> Result<(), CollectorFault>
         ensures answer { result ≡ (added (S.genuine sealer.now) self.old bytes.now).0 }
         ensures after { self.new ≡ (added (S.genuine sealer.now) self.old bytes.now).1 }
     {
-        let packet = open(sealer, Reader::Collector, bytes)?;
-        let answer = packet.first;
-        self.check(answer)?;
-        self.keep(answer);
-        Ok(())
+        let answer = open(sealer, Reader::Collector, bytes)?.first;
+        if answer.slot != self.slot {
+            return Err(CollectorFault::Slot);
+        }
+        let place = &mut self.results[usize::from(answer.signer)];
+        match *place {
+            None => {
+                *place = Some(answer.command);
+                Ok(())
+            }
+            Some(kept) if kept != answer.command => Err(CollectorFault::Unlike),
+            Some(_) => Err(CollectorFault::Held),
+        }
     }
 
     // Closes with the result that two replicas gave, or hands the collector back.

@@ -10,6 +10,7 @@ mod tests {
     use std::process::Abort;
     use std::test::Fail;
 
+    // A replica's answer under the bench's seal. The demo has the like under keys; a crate for one literal would be no plainer.
     fn answer(signer: u8, slot: u32, outcome: u64) -> Result<[u8; 30], SealerFault> {
         let unsealed = Statement {
             kind: Kind::Answer,
@@ -28,8 +29,8 @@ mod tests {
     fn closed_with(rt: &impl Abort, results: &[(u8, u64)]) -> Result<Option<u64>, Fail> {
         let client = BenchSealer::new(0)?;
         let mut waiting = Waiting::new(Slot(5))?;
-        for line in results {
-            waiting.add(&client, &answer(line.0, 5, line.1)?)?;
+        for &(signer, outcome) in results {
+            waiting.add(&client, &answer(signer, 5, outcome)?)?;
         }
         match waiting.close() {
             Ok(closed) => Ok(Some(closed.result())),
@@ -79,11 +80,9 @@ mod tests {
     }
 
     // The bytes with one of them changed.
-    fn changed(mut bytes: [u8; 30], at: usize, by: u8) -> [u8; 30] {
-        if at < 30 {
-            bytes[at] ^= by;
-        }
-        bytes
+    fn changed(mut bytes: [u8; 30], at: usize, by: u8) -> Result<[u8; 30], Fail> {
+        *bytes.get_mut(at).ok_or("no such byte")? ^= by;
+        Ok(bytes)
     }
 
     #[test]
@@ -91,10 +90,10 @@ mod tests {
         let mut waiting = Waiting::new(Slot(5))?;
         let good = answer(2, 5, 9)?;
         assert_eq!(rt; refused(&mut waiting, &[])?, 2);
-        assert_eq!(rt; refused(&mut waiting, &changed(good, 0, 0xFF))?, 2);
+        assert_eq!(rt; refused(&mut waiting, &changed(good, 0, 0xFF)?)?, 2);
         assert_eq!(rt; refused(&mut waiting, &good[0..29])?, 3);
-        assert_eq!(rt; refused(&mut waiting, &changed(good, 1, 4))?, 4);
-        assert_eq!(rt; refused(&mut waiting, &changed(good, 29, 1))?, 5);
+        assert_eq!(rt; refused(&mut waiting, &changed(good, 1, 4)?)?, 4);
+        assert_eq!(rt; refused(&mut waiting, &changed(good, 29, 1)?)?, 5);
         assert_eq!(rt; refused(&mut waiting, &answer(2, 6, 9)?)?, 9);
         assert_eq!(rt; refused(&mut waiting, &good)?, 0);
         assert_eq!(rt; refused(&mut waiting, &answer(2, 6, 8)?)?, 9);

@@ -6,7 +6,6 @@ use anyhow::{bail, ensure};
 use collector::Waiting;
 use packet::Slot;
 use service::{Booking, Recorder, Service};
-use std::array;
 
 // One sample with reading 7 on channel 15.
 const SAMPLE: u64 = 0x530F_0000_0000_0007;
@@ -16,12 +15,15 @@ const BOOKING: u64 = 0x421E_0500_0000_0000;
 
 // Three replicas' services carry out the command of a slot, and each replica has its answer.
 fn answers<V: Service>(services: &mut [V; 3], slot: Slot, command: u64) -> [Answer; 3] {
-    // By index, since arrays have no `each_mut` here.
-    array::from_fn(|i| Answer {
-        replica: i as u8,
+    let mut answers = [0, 1, 2].map(|replica| Answer {
+        replica,
         slot,
-        outcome: services[i].apply(command),
-    })
+        outcome: 0,
+    });
+    for (answer, service) in answers.iter_mut().zip(services) {
+        answer.outcome = service.apply(command);
+    }
+    answers
 }
 
 // Three replicas answer, and the second lies: the collector has its result once the third has answered.

@@ -2,6 +2,7 @@
 use Rattle.std.proofs.Common.{◌≡◌, ℕ, ◌^◌, ◌<◌, Bool, true, false, cond, eqb, List, [], ◌∷◌, ◌++◌, length, get_or, drop, Some, None, Ok, Option, sym, refl, ap, ◌∙◌, subst, arith}
 use Rattle.std.proofs.lemmas.Bool.{cond-true, eqb-true}
 use Rattle.std.proofs.lemmas.Bool.Decides.{nat_tests}
+use Rattle.std.proofs.lemmas.Option.{option_and_then_some}
 use Rattle.std.proofs.lemmas.List.{drop_more, drop_all, append-nil}
 use Rattle.std.specs.Option.{ok_or, option_and_then}
 use Rattle.std.specs.Int.Digits.{AllBelowBase}
@@ -17,10 +18,6 @@ use Rattle.packet.specs.Laws.{OneEncoding, Sound}
 use Rattle.packet.proofs.Digits.{bytes_part, four_back, eight_back, number_small}
 
 -- options
-and_then_some : {X Y : Type 0} (o : Option X) (f : X → Option Y) (y : Y) → option_and_then f o ≡ Some y → (x : X) × (o ≡ Some x) × (f x ≡ Some y)
-and_then_some (Some x) f y e = (x, refl, e)
-and_then_some None f y e = let z : ◌≡◌ {A = ℕ} 0 1 = cc in absurd (omega arith)
-
 cond_some : {X : Type 0} (b : Bool) (o : Option X) (x : X) → cond b o None ≡ Some x → (b ≡ true) × (o ≡ Some x)
 cond_some true o x e = (refl, e)
 cond_some false o x e = let z : ◌≡◌ {A = ℕ} 0 1 = cc in absurd (omega arith)
@@ -106,7 +103,7 @@ unfolding decode
 writes_back bs s u e =
     let a = cond_some (eqb (length bs) 30) _ s e in
     let len = eqb-true (length bs) 30 a.0 in
-    let b = and_then_some (kind_of (get_or bs 0 0)) (λ k. if_proper (fields k bs)) s a.1 in
+    let b : (k : Kind) × (kind_of (get_or bs 0 0) ≡ Some k) × (if_proper (fields k bs) ≡ Some s) = option_and_then_some (λ k. if_proper (fields k bs)) (kind_of (get_or bs 0 0)) s a.1 (λ k h g. (k, h, g)) in
     let d = sound_at b.0 bs s u len b.2 in
     (ap encode (sym d.0) ∙ fields_there b.0 bs u len (kind_there (get_or bs 0 0) b.0 b.1), d.1)
 

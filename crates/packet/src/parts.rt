@@ -5,7 +5,8 @@ ghost use Rattle.packet.specs.Parts.{check_statements, statement_at};
 use super::statements::Statement;
 use refusal::PacketFault;
 
-// Pieces of thirty bytes, each of which is a statement once it was read. The place of each fits the `u32` that a refusal has for it.
+// Pieces of thirty bytes, whose places fit the `u32` that a refusal has for them. `read_packet` and `read_proof` give them out only if
+// each is a statement.
 #[derive(Clone, Copy)]
 pub struct Parts<'a> {
     pub bytes: &'a [[u8; 30]],

@@ -97,7 +97,8 @@ impl Statement {
     }
 }
 
-// A number of 32 bits fits four bytes, and one of 64 bits eight. It does nothing: it hands that fact to whoever calls it.
+// A number of 32 bits fits four bytes, and one of 64 bits eight. It does nothing: it hands that fact to its callers, who have the
+// statement behind a reference, and there the check does not see it.
 fn fit(statement: Statement)
     ensures fits { Fits statement }
     ensures seal { statement.seal < 256 ^ 8 }

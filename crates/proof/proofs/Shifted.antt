@@ -1,7 +1,8 @@
 -- Statements behind an order are judged as the same statements alone.
 use Rattle.std.proofs.Common.{◌≡◌, ℕ, zero, suc, ◌+◌, ◌-◌, ◌<◌, ◌≤◌, Bool, true, false, cond, ◌&&◌, ◌||◌, eqb, List, [], ◌∷◌, length, take, drop, get_or, zip, Some, None, Ok, Err, Option, Result, sym, refl, ap, ◌∙◌, arith}
 use Rattle.std.specs.List.{list_all}
-use Rattle.std.proofs.lemmas.Bool.Decides.{nat_tests}
+use Rattle.std.proofs.Math.Bool.{and-false}
+use Rattle.std.proofs.Math.Dec.{eqb-suc-suc}
 use Rattle.std.proofs.lemmas.List.{drop-drop, take_rest}
 use Rattle.packet.specs.Parts.{statement_at}
 use Rattle.packet.specs.Statements.{decode}
@@ -15,9 +16,6 @@ use Rattle.proof.specs.Certificates.{each_says, prepared, says}
 use Rattle.proof.specs.Laws.{RestAlike}
 use Rattle.proof.specs.Reports.{behind, certified, check_backing, check_reports, grouped, group_of, holds, justify, report_at, reports_from, reports_on}
 use Rattle.proof.specs.Roles.{backups, primary}
-
-eqb_suc : (a b : ℕ) → eqb (suc a) (suc b) ≡ eqb a b
-eqb_suc a b = grind (arith, nat_tests)
 
 module _ (p : List ℕ) (ps : List (List ℕ)) where
   pub each_alike : (k : Kind) (v n c i : ℕ) (js : List ℕ) → each_says k v n c (p ∷ ps) (suc i) js ≡ each_says k v n c ps i js
@@ -51,7 +49,7 @@ module _ (p : List ℕ) (ps : List (List ℕ)) where
   after_alike k v n i alike (Ok r) = ap (λ x. and_then x (λ rs. Ok (r ∷ rs))) (ap (reports_from k v n (p ∷ ps)) (behind_alike i (eqb r.earlier.0 0)) ∙ alike (behind i r))
 
   reports_alike : (k v n i : ℕ) → reports_from k v n (p ∷ ps) (suc i) ≡ reports_from k v n ps i
-  reports_alike zero v n i = ap (λ b. cond b (Ok []) (Err Rule)) (eqb_suc i (length ps))
+  reports_alike zero v n i = ap (λ b. cond b (Ok []) (Err Rule)) (eqb-suc-suc i (length ps))
   reports_alike (suc k) v n i =
       ap (λ o. and_then o (λ r. and_then (reports_from k v n (p ∷ ps) (behind (suc i) r)) (λ rs. Ok (r ∷ rs)))) (report_alike v n i)
       ∙ after_alike k v n i (reports_alike k v n) (report_at v n ps i)
@@ -59,7 +57,7 @@ module _ (p : List ℕ) (ps : List (List ℕ)) where
   backing_alike : (v n c : ℕ) → check_backing v n c (p ∷ ps) 1 ≡ check_backing v n c ps 0
   unfolding check_backing check_reports
   backing_alike v n c =
-      ap (λ b. cond (eqb v 1) (holds b) (check_reports v n c (p ∷ ps) 1)) (eqb_suc (length ps) 0)
+      ap (λ b. cond (eqb v 1) (holds b) (check_reports v n c (p ∷ ps) 1)) (eqb-suc-suc (length ps) 0)
       ∙ ap (λ x. cond (eqb v 1) (holds (eqb (length ps) 0)) (and_then x (λ rs. holds (justify c rs)))) (reports_alike 3 v n 0)
 
 pub rest_alike : RestAlike
@@ -80,11 +78,7 @@ module _ (k : Kind) (v n c : ℕ) where
   unfolding says decode
   each_short [] ps h = absurd (omega arith)
   each_short (j ∷ js) [] h = refl
-  each_short (j ∷ js) (p ∷ ps) h = ap (λ b. said_by (j, p) && b) (each_alike p ps k v n c 0 js ∙ each_short js ps (omega arith)) ∙ none_stands (said_by (j, p))
-    where
-      none_stands : (b : Bool) → (b && false) ≡ false
-      none_stands true = refl
-      none_stands false = refl
+  each_short (j ∷ js) (p ∷ ps) h = ap (λ b. said_by (j, p) && b) (each_alike p ps k v n c 0 js ∙ each_short js ps (omega arith)) ∙ and-false (said_by (j, p))
 
 -- a certificate by the part in front and the parts behind it
 pub prepared_front : (v n c : ℕ) (ps : List (List ℕ)) → 0 < length ps → prepared v n c ps 0 ≡ (says Order (primary v) v n c (decode (get_or ps 0 [])) && each_says Prepare v n c (drop 1 ps) 0 (backups v))

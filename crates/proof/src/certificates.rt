@@ -7,7 +7,8 @@ ghost use Rattle.proof.specs.Choices.{choice_of};
 use super::roles::{active, backups, primary};
 use packet::{Kind, Slot, Statement, View};
 
-// What an order is for, and the votes of a certificate: a command for a slot in a view.
+// What an order is for, and the votes of a certificate: a command for a slot in a view. The definitions take the three as numbers, as
+// the law of agreement does.
 #[derive(Clone, Copy, PartialEq, Eq, Debug)]
 pub struct Choice {
     pub view: View,

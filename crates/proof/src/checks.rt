@@ -17,6 +17,7 @@ fn check_rule(packet: &Packet<'_>) -> Result<(), ProofFault>
     let choice = Choice::from(&packet.first);
     let parts = packet.parts.bytes;
     match packet.first.kind {
+        // A packet that was read has its order in front.
         Kind::Order => match parts {
             [_, behind @ ..] => choice.check_backing(behind),
             [] => Err(ProofFault::Rule),

@@ -89,7 +89,8 @@ impl Choice {
             slot: self.slot,
             command: report.command,
         };
-        if !named.is_prepared(rest) {
+        let certified = named.is_prepared(rest);
+        if !certified {
             return Err(ProofFault::Rule);
         }
         Ok(Group {

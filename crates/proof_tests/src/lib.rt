@@ -5,6 +5,7 @@
 mod tests {
     use packet::{Kind, Slot, Statement, View};
     use proof::{Choice, active, backups, check_packet, check_proof, primary, spare};
+    use refusal::ProofFault;
     use sealer::{BenchSealer, Sealer};
     use std::alloc::{AllocError, Global};
     use std::process::Abort;
@@ -60,12 +61,9 @@ mod tests {
         Ok(bytes)
     }
 
-    // The number of the refusal; 0, as the tables have it, where the packet passes.
-    fn refused(sealer: &BenchSealer, bytes: &[u8]) -> u8 {
-        match check_packet(sealer, bytes) {
-            Ok(_) => 0,
-            Err(fault) => fault.refusal().number,
-        }
+    // The number of the refusal; 0, as the tables have it, where the bytes pass.
+    fn refused<T: Drop>(judged: Result<T, ProofFault>) -> u8 {
+        judged.err().map_or(0, |fault| fault.refusal().number)
     }
 
     // What stands at a place in place of what should, and the refusal.
@@ -82,7 +80,7 @@ mod tests {
             let mut changed = said.to_vec(alloc)?;
             *changed.get_mut(*place).ok_or("no such place")? = *other;
             let bytes = written(alloc, &mut sealer, &changed)?;
-            assert_eq!(rt; refused(&sealer, &bytes), *number);
+            assert_eq!(rt; refused(check_packet(&sealer, &bytes)), *number);
         }
         Ok(())
     }
@@ -201,11 +199,7 @@ mod tests {
                 slot: Slot(9),
                 command: *command,
             };
-            let judged = match check_proof(&sealer, choice, &bytes) {
-                Ok(_) => 0,
-                Err(fault) => fault.refusal().number,
-            };
-            assert_eq!(rt; judged, *number);
+            assert_eq!(rt; refused(check_proof(&sealer, choice, &bytes)), *number);
         }
         Ok(())
     }

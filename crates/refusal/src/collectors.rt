@@ -50,7 +50,6 @@ impl CollectorFault {
 
 impl fmt::Display for CollectorFault {
     fn fmt<W: fmt::Write>(&self, f: &mut fmt::Formatter<W>) -> fmt::Result {
-        let refusal = self.refusal();
         let words = match self {
             CollectorFault::Sealer(fault) => return write!(f, "{fault}"),
             CollectorFault::Slot =>
@@ -62,6 +61,7 @@ impl fmt::Display for CollectorFault {
             CollectorFault::Apart =>
                 "no two replicas' results agree yet; wait for another answer, and close again",
         };
+        let refusal = self.refusal();
         write!(f, "{refusal}: {words}")
     }
 }

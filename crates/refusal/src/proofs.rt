@@ -40,14 +40,13 @@ impl ProofFault {
 
 impl fmt::Display for ProofFault {
     fn fmt<W: fmt::Write>(&self, f: &mut fmt::Formatter<W>) -> fmt::Result {
+        let words = match self {
+            ProofFault::Sealer(fault) => return write!(f, "{fault}"),
+            ProofFault::Rule =>
+                "the statements do not stand together as an order, a proof or a certificate; whoever put them together is at fault, gather the reports or the commits anew",
+        };
         let refusal = self.refusal();
-        match self {
-            ProofFault::Sealer(fault) => write!(f, "{fault}"),
-            ProofFault::Rule => write!(
-                f,
-                "{refusal}: the statements do not stand together as an order, a proof or a certificate; whoever put them together is at fault, gather the reports or the commits anew"
-            ),
-        }
+        write!(f, "{refusal}: {words}")
     }
 }
 

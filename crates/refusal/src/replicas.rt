@@ -68,7 +68,6 @@ impl ReplicaFault {
 
 impl fmt::Display for ReplicaFault {
     fn fmt<W: fmt::Write>(&self, f: &mut fmt::Formatter<W>) -> fmt::Result {
-        let refusal = self.refusal();
         let words = match self {
             ReplicaFault::Proof(fault) => return write!(f, "{fault}"),
             ReplicaFault::Space =>
@@ -90,6 +89,7 @@ impl fmt::Display for ReplicaFault {
                 "the slot is not decided yet; wait for its commits, or hand in a decision certificate",
             ReplicaFault::LastView => "this is the last view, and it cannot be left",
         };
+        let refusal = self.refusal();
         write!(f, "{refusal}: {words}")
     }
 }

@@ -47,7 +47,6 @@ impl SealerFault {
 
 impl fmt::Display for SealerFault {
     fn fmt<W: fmt::Write>(&self, f: &mut fmt::Formatter<W>) -> fmt::Result {
-        let refusal = self.refusal();
         let words = match self {
             SealerFault::Packet(fault) => return write!(f, "{fault}"),
             SealerFault::Number =>
@@ -55,6 +54,7 @@ impl fmt::Display for SealerFault {
             SealerFault::Seal { .. } =>
                 "the seal is not genuine under the signer's number; the bytes were changed, or the keys differ",
         };
+        let refusal = self.refusal();
         write!(f, "{refusal}: {words}")
     }
 }

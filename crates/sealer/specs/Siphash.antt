@@ -30,13 +30,13 @@ second_half s = record {
 unfoldable pub sip_round : State → State
 sip_round s = second_half (first_half s)
 
--- the first half with v0 and v2 in each other's place, and other turns: with 17 and 21 it is the second half of what it leaves
-abbrev pub half : (left right : ℕ) → State → State
-half left right s = record {
+-- half a round by the turns of v1 and v3; v0 and v2 change places, so that half 17 21 (half 13 16 s) is sip_round s
+abbrev pub half : (t1 t3 : ℕ) → State → State
+half t1 t3 s = record {
   v0 = plus s.v2 s.v3;
-  v1 = bit_xor (turned s.v1 left) (plus s.v0 s.v1);
+  v1 = bit_xor (turned s.v1 t1) (plus s.v0 s.v1);
   v2 = turned (plus s.v0 s.v1) 32;
-  v3 = bit_xor (turned s.v3 right) (plus s.v2 s.v3);
+  v3 = bit_xor (turned s.v3 t3) (plus s.v2 s.v3);
 }
 
 -- initialization, from the two words of the key

@@ -23,19 +23,20 @@ impl State {
         }
     }
 
-    // Half of a round. It leaves v0 and v2 in each other's place, so that the other half is the same with other turns.
-    fn half<const LEFT: u32, const RIGHT: u32>(self) -> State
-        requires left { (0 < LEFT) × (LEFT < 64) }
-        requires right { (0 < RIGHT) × (RIGHT < 64) }
-        ensures { result ≡ half LEFT RIGHT self }
+    // Half of a round, with the turns of v1 and of v3. It leaves v0 and v2 in each other's place, so that the other half is the same with
+    // other turns.
+    fn half<const V1: u32, const V3: u32>(self) -> State
+        requires v1 { (0 < V1) × (V1 < 64) }
+        requires v3 { (0 < V3) × (V3 < 64) }
+        ensures { result ≡ half V1 V3 self }
     {
         let v0 = self.v0.wrapping_add(self.v1);
         let v2 = self.v2.wrapping_add(self.v3);
         State {
             v0: v2,
-            v1: self.v1.rotate_left(LEFT) ^ v0,
+            v1: self.v1.rotate_left(V1) ^ v0,
             v2: v0.rotate_left(32),
-            v3: self.v3.rotate_left(RIGHT) ^ v2,
+            v3: self.v3.rotate_left(V3) ^ v2,
         }
     }
 

@@ -8,7 +8,7 @@ use super::numbers::ReplicaNumber;
 use super::sealers::Sealer;
 use refusal::SealerFault;
 
-// What makes a group's tags. Replicas and clients of one group make the same. They go with the sealer that holds them.
+// What makes a group's tags. Replicas and clients of one group make the same. They are dropped with the sealer that holds them.
 pub trait Tags: Drop {
     // The tag of some bytes under a replica's number.
     ghost tagged: { Self → ℕ → List ℕ → ℕ };

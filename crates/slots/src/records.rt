@@ -1,5 +1,5 @@
 // The record of one slot. All of it is flat: numbers, flags and arrays of these, so that a C or C++ program can hold it in
-// its own memory. Where something may be missing an accessor answers an `Option`.
+// its own memory. Where something may be missing, whoever reads it answers an `Option`.
 use packet::View;
 
 // The seals of votes by signer, where `held`. A C++ host holds them, so the flags are no `Option`s; two arrays take 40 bytes, four

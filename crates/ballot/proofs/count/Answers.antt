@@ -1,3 +1,4 @@
+-- An attribute with `using` finds this too, but only just: not under `rt check --margin`.
 use Rattle.ballot.proofs.Equality.{counting}
 use Rattle.ballot.proofs.count.Goals as goal
 

@@ -1,3 +1,4 @@
+-- The check does not find these alone.
 use Rattle.std.proofs.Common.{refl}
 use Rattle.packet.specs.Statements.{body, decode, encode}
 use Rattle.proof.specs.Certificates.{prepared, says}

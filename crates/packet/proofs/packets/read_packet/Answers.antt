@@ -1,3 +1,4 @@
+-- The check does not find these alone.
 use Rattle.std.proofs.Common.{Err, arith, rules}
 use Rattle.refusal.specs.declared.packets.PacketFault.TheVariants.{Length}
 use Rattle.packet.specs.Packets.{read_packet}

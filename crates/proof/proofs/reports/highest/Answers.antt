@@ -1,3 +1,4 @@
+-- The check does not find these alone.
 use Rattle.std.proofs.Common.{◌≡◌, max, fold, ◌∙◌, rules}
 use Rattle.proof.proofs.Tests.{highest_folded}
 use Rattle.proof.proofs.reports.highest.Goals as goal

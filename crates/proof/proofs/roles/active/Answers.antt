@@ -1,3 +1,4 @@
+-- The check does not find these alone.
 use Rattle.proof.proofs.Actives.{active_quorum}
 use Rattle.proof.proofs.roles.active.Goals as goal
 

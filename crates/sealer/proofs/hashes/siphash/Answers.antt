@@ -1,3 +1,4 @@
+-- The check does not find these alone.
 use Rattle.std.proofs.Common.{◌≡◌, ◌/◌, length, ap, ◌∙◌, arith, rules}
 use Rattle.sealer.specs.Siphash.{absorbed, compressed, finished, keyed, low, siphash}
 use Rattle.sealer.proofs.Words.{absorbed_more, last_is, word_at}

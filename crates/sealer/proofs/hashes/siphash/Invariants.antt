@@ -1,3 +1,4 @@
+-- The check does not find these alone.
 use Rattle.std.proofs.Common.{◌≡◌}
 use Rattle.sealer.specs.Siphash.{absorbed, keyed, low}
 use Rattle.sealer.proofs.hashes.siphash.Given as goal

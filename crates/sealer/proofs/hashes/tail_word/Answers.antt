@@ -1,3 +1,4 @@
+-- The check does not find these alone.
 use Rattle.std.proofs.Common.{◌%◌, ◌++◌, length, set, drop, ap, ◌∙◌}
 use Rattle.sealer.specs.Siphash.{low}
 use Rattle.sealer.proofs.Words.{last_bytes, nils}

@@ -1,3 +1,4 @@
+-- The check does not find these alone.
 use Rattle.std.proofs.Common.{◌≡◌, drop}
 use Rattle.sealer.specs.Seals.{check_seals}
 use Rattle.sealer.proofs.sealers.check_seals.Given as goal

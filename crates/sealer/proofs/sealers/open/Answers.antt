@@ -1,3 +1,4 @@
+-- The check does not find these alone.
 use Rattle.std.proofs.Common.{Ok, arith, rules}
 use Rattle.sealer.specs.Seals.{open_packet}
 use Rattle.sealer.proofs.Openings.{opening}

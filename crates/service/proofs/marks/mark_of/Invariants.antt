@@ -1,3 +1,4 @@
+-- The check does not find these alone.
 use Rattle.std.proofs.Common.{◌≡◌, fold, take}
 use Rattle.service.proofs.marks.mark_of.Given as goal
 

@@ -1,3 +1,4 @@
+-- The check does not find these alone.
 use Rattle.std.proofs.Common.{◌≡◌, take}
 use Rattle.service.specs.Outcomes.{run}
 use Rattle.service.proofs.services.apply_all.Given as goal

@@ -1,3 +1,4 @@
+-- The check does not find these alone.
 use Rattle.std.proofs.Common.{◌≡◌, ◌+◌, drop}
 use Rattle.packet.specs.Parts.{check_statements}
 use Rattle.packet.proofs.parts.Parts.check_from.Given as goal

@@ -1,3 +1,4 @@
+-- The check does not find these alone.
 use Rattle.std.proofs.Common.{refl, ◌∙◌}
 use Rattle.packet.proofs.Digits.{four_read, eight_read}
 use Rattle.packet.proofs.statements.Statement.fields.Goals as goal

@@ -1,3 +1,4 @@
+-- The check does not find these alone.
 use Rattle.std.proofs.Common.{rules}
 use Rattle.proof.proofs.Shifted.{third_fails, three_stand}
 use Rattle.proof.proofs.certificates.Choice.check_reports.Goals as goal

@@ -1,3 +1,4 @@
+-- The check does not find these alone.
 use Rattle.std.proofs.Common.{true, false, refl, sym, rules}
 use Rattle.proof.proofs.Shifted.{group_alone, group_certified}
 use Rattle.proof.proofs.certificates.Choice.group.Goals as goal
@@ -7,8 +8,8 @@ returns-then-eq-clause-exact c =
     let s = c.args.self in
     sym (group_alone s.view.0 s.slot.0 c.args.parts.now _ c.in-Some.report refl c.in-len1-up.len_at_least (search rules) (search rules) (search rules))
 
-pub returns-then-not-is_prepared-clause-exact : goal.returns-then-not-is_prepared-clause-exact
-returns-then-not-is_prepared-clause-exact c =
+pub returns-then-not-certified-clause-exact : goal.returns-then-not-certified-clause-exact
+returns-then-not-certified-clause-exact c =
     let s = c.args.self in
     sym (group_certified s.view.0 s.slot.0 c.args.parts.now _ c.in-Some.report refl c.in-len1-up.len_at_least (search rules) (search rules) (search rules) false (search rules))
 
