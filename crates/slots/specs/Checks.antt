@@ -1,7 +1,8 @@
 -- What the core refuses, as tests in their order: the first that fails gives the refusal.
-use Rattle.std.specs.Prelude.{ℕ, ◌+◌, Bool, cond, not, ◌&&◌, ◌||◌, List, [], ◌∷◌, Ok, Err, Result, ◌==◌, nat_lt}
+use Rattle.std.specs.Prelude.{ℕ, ◌+◌, Bool, cond, not, ◌&&◌, ◌||◌, List, [], ◌∷◌, ◌++◌, Ok, Err, Result, ◌==◌, nat_lt}
 use Rattle.packet.specs.declared.kinds.Kind.{Kind}
 use Rattle.packet.specs.declared.kinds.Kind.TheVariants.{Order, Prepare, Commit, Report, Wish, Checkpoint, Answer}
+use Rattle.packet.specs.declared.fields.Slot.{Slot}
 use Rattle.packet.specs.declared.statements.Statement.{Statement}
 use Rattle.proof.specs.Roles.{primary, spare}
 use Rattle.refusal.specs.declared.replicas.ReplicaFault.{ReplicaFault}
@@ -9,6 +10,8 @@ use Rattle.refusal.specs.declared.replicas.ReplicaFault.TheVariants as fault
 use Rattle.slots.specs.Cores.{is_open, record_at, wish_of, mark_at, has_mark}
 use Rattle.slots.specs.Records.{has, is_there}
 use Rattle.slots.specs.declared.cores.Core.{Core}
+use Rattle.refusal.specs.Refusals.{and_then}
+use Rattle.slots.specs.declared.records.Certificate.{Certificate}
 use Rattle.slots.specs.declared.records.Record.{Record}
 use Rattle.slots.specs.declared.records.Votes.{Votes}
 
@@ -49,27 +52,27 @@ abbrev pub certificate_tests : Record → (c : ℕ) → List Test
 certificate_tests r c = test fault.Unlike (like_decision r c) ∷ test fault.Held (not (is_there r.decided)) ∷ []
 
 -- An order, a prepare or a single commit: of the own view, by another, who has the part that is asked for, at an open slot.
-abbrev pub part_tests : (own : ℕ) → Core → Statement → (has_part : Bool) → List Test → List Test
-part_tests own core s has_part rest =
+abbrev pub part_tests : (own : ℕ) → Core → Statement → (has_part : Bool) → List Test
+part_tests own core s has_part =
     test fault.View (s.view.0 == core.view.0)
     ∷ test fault.Role (not (s.signer == own))
     ∷ test fault.Role (is_active core.view.0 own)
     ∷ test fault.Role has_part
     ∷ test fault.Slot (is_open core s.slot.0)
-    ∷ rest
+    ∷ []
 
 abbrev pub take_order : (own : ℕ) → Core → Statement → List Test
-take_order own core s = part_tests own core s (s.signer == primary core.view.0) (order_tests (record_at core s.slot.0) s.command)
+take_order own core s = part_tests own core s (s.signer == primary core.view.0) ++ order_tests (record_at core s.slot.0) s.command
 
 abbrev pub take_prepare : (own : ℕ) → Core → Statement → List Test
 take_prepare own core s =
     let r = record_at core s.slot.0 in
-    part_tests own core s (is_backup core.view.0 s.signer) (vote_tests r r.prepares s.signer s.command)
+    part_tests own core s (is_backup core.view.0 s.signer) ++ vote_tests r r.prepares s.signer s.command
 
 abbrev pub take_commit : (own : ℕ) → Core → Statement → List Test
 take_commit own core s =
     let r = record_at core s.slot.0 in
-    part_tests own core s (is_active core.view.0 s.signer) (vote_tests r r.commits s.signer s.command)
+    part_tests own core s (is_active core.view.0 s.signer) ++ vote_tests r r.commits s.signer s.command
 
 abbrev pub take_certificate : Core → Statement → List Test
 take_certificate core s = test fault.Slot (is_open core s.slot.0) ∷ certificate_tests (record_at core s.slot.0) s.command
@@ -119,3 +122,10 @@ show_tests core n = test fault.Slot (is_open core n) ∷ test fault.Undecided (i
 -- run carries out the slot behind the count
 abbrev pub run_tests : Core → List Test
 run_tests core = show_tests core (core.count + 1)
+
+-- the decision that show writes and run carries out, or the refusal
+abbrev pub shown : Core → (n : ℕ) → Result Certificate ReplicaFault
+shown core n = and_then (verdict (show_tests core n)) (λ _. Ok (record_at core n).decided)
+
+abbrev pub runnable : Core → Result (Slot × Certificate) ReplicaFault
+runnable core = and_then (verdict (run_tests core)) (λ _. Ok (record { 0 = core.count + 1 }, (record_at core (core.count + 1)).decided))

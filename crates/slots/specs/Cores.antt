@@ -1,8 +1,10 @@
 -- What a replica holds besides its sealer and its service, and what changes it.
-use Rattle.std.specs.Prelude.{ℕ, zero, suc, ◌+◌, ◌-◌, ◌/◌, ◌%◌, min, max, Bool, true, false, cond, ◌&&◌, List, map, get_or, replicate, Some, None, Option, ◌==◌, nat_le, nat_lt, slice_index_or, slice_set}
+use Rattle.std.specs.Prelude.{ℕ, zero, suc, ◌+◌, ◌-◌, ◌/◌, ◌%◌, min, max, Bool, true, false, ◌≡◌, ◌<◌, ◌≤◌, MatchOption, cond, ◌&&◌, List, map, get_or, replicate, Some, None, Option, ◌==◌, nat_le, nat_lt, slice_index_or, slice_set}
 use Rattle.ballot.specs.Counting.{count_of}
 use Rattle.ballot.specs.Marks.{mark_of, held_mark, same_mark}
+use Rattle.ballot.specs.declared.marks.Mark.{Mark}
 use Rattle.ballot.specs.declared.marks.MarkBallot.{MarkBallot}
+use Rattle.packet.specs.declared.fields.Slot.{Slot}
 use Rattle.slots.specs.Records.{blank, with_order, with_prepare, with_commit, with_decision, dropped, all_prepared, settled, confirmed, is_there}
 use Rattle.slots.specs.declared.cores.Core.{Core}
 use Rattle.slots.specs.declared.records.Certificate.{Certificate}
@@ -99,6 +101,9 @@ mark_at core n j = slice_index_or (row core n) j no_mark
 abbrev pub has_mark : Core → (n j : ℕ) → Bool
 has_mark core n j = (mark_at core n j).held && (mark_at core n j).slot.0 == n
 
+abbrev pub mark_if_held : Core → (n j : ℕ) → Option Mark
+mark_if_held core n j = cond (has_mark core n j) (Some (mark_of (mark_at core n j))) None
+
 abbrev pub with_marks : Core → List (List MarkBallot) → Core
 with_marks core ms = record { view = core.view; count = core.count; floor = core.floor; wishes = core.wishes; table = core.table; marks = ms }
 
@@ -138,6 +143,23 @@ mark_kept own core n j m =
 abbrev pub with_count : Core → ℕ → Core
 with_count core k = record { view = core.view; count = k; floor = core.floor; wishes = core.wishes; table = core.table; marks = core.marks }
 
--- The question for slot n: its decision, while it is open.
+-- whether the decision of slot n is held, while it is open
+abbrev pub is_decided : Core → ℕ → Bool
+is_decided core n = is_open core n && is_there (record_at core n).decided
+
+-- The question for slot n: its decision.
 abbrev pub decision : Core → ℕ → Option Certificate
-decision core n = cond (is_open core n && is_there (record_at core n).decided) (Some (record_at core n).decided) None
+decision core n = cond (is_decided core n) (Some (record_at core n).decided) None
+
+-- Slot n is missing: it is above the count and not decided, and some slot above it is.
+abbrev pub Missing : Core → ℕ → Type 0
+Missing core n = core.count < n × (is_decided core n ≡ false) × (m : ℕ) × n < m × (is_decided core m ≡ true)
+
+-- The question for a missing slot answers one, or that there is none.
+abbrev pub AnswersMissing : Core → Option Slot → Type 0
+AnswersMissing core x = MatchOption x ((n : ℕ) → ¬ Missing core n) (λ slot. Missing core slot.0)
+
+-- h is the highest decided slot, or 0 where none is
+pub record Highest (core : Core) (h : ℕ) : Type 0 where
+  pub above : (n : ℕ) → is_decided core n ≡ true → n ≤ h
+  pub decided : 0 < h → is_decided core h ≡ true

@@ -2,6 +2,7 @@
 // kept wishes and kept marks. What is refused and what each call changes stands in `specs`; no function acts on it yet.
 #![tactic(auto)]
 
+mod checks;
 mod cores;
 mod records;
 mod tables;
