@@ -4,9 +4,10 @@ use Rattle.std.specs.List.{AllByRecursion}
 use Rattle.cases.specs.Lines.{Line, Holds}
 use Rattle.cases.specs.Proofs.{none_for, proof_lines}
 use Rattle.cases.specs.Services.{service_lines}
+use Rattle.cases.specs.States.{state_lines}
 
 abbrev pub table : List Line
-table = service_lines ++ proof_lines
+table = service_lines ++ (proof_lines ++ state_lines)
 
 pub record Cases : Type 0 where
   pub lines : AllByRecursion Holds table

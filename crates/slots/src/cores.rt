@@ -76,9 +76,8 @@ impl Core {
     pub fn prepare(&mut self, slot: Slot, signer: u8, seal: u64)
         ensures { self.new ≡ prepare_counted self.old slot.0 signer seal }
     {
-        self.table.records[place_of(slot)]
-            .prepares
-            .hold(signer, seal);
+        let record = &mut self.table.records[place_of(slot)];
+        record.prepares.hold(signer, seal);
     }
 
     // Whether the order and both prepares of the present view are held.

@@ -1,5 +1,5 @@
 // The state of a replica without its sealer and its service: the records of the open slots, the view, the count, the floor,
-// kept wishes and kept marks. What is refused and what each call changes stands in `specs`; no function acts on it yet.
+// kept wishes and kept marks; what it refuses, and what each call changes in it.
 #![tactic(auto)]
 
 mod checks;
