@@ -3,3 +3,9 @@ pub mod Verdicts
 pub mod Rings
 pub mod Refines
 pub mod Readings
+mod Logs
+mod Origins
+mod Backs
+mod Rules
+mod Decisions
+mod Carrying
