@@ -9,3 +9,5 @@ mod Backs
 mod Rules
 mod Decisions
 mod Carrying
+mod Steady
+mod Rounds

@@ -142,7 +142,7 @@ module _ {State : Type 0} (k : Setting State) where
         let c = came e.who k e.before e.after e.call e.answer d w.readable w.answers s.is busy in
         record { turn = e; stands = s.stands; own = s.own; out = c.out; answered = c.answered; from = c.from; readable = w.readable; answers = subst (λ (x : Option (List Statement)). Answers e.who k e.before e.call x e.after) c.answered w.answers }
 
-    own_vote : (i v n c : ℕ) → Among (sheets.order v n c) (log i h) → (world k h).Voted i v n c
+    pub own_vote : (i v n c : ℕ) → Among (sheets.order v n c) (log i h) → (world k h).Voted i v n c
     own_vote i v n c a =
         let o = origin i (sheets.order v n c) tt a in
         let e = o.turn in
