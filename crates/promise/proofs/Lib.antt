@@ -11,3 +11,4 @@ mod Decisions
 mod Carrying
 mod Steady
 mod Rounds
+mod Passing

@@ -73,10 +73,10 @@ statements_of (show n) = None
 statements_of run = None
 
 module _ (bs : List ℕ) (s : Statement) (ss : List Statement) (w : Taken bs s ss) where
-  lone : (k : Kind) → s.kind ≡ k → ((n : ℕ) → has_length k n ≡ eqb n 30) → ss ≡ []
+  pub lone : (k : Kind) → s.kind ≡ k → ((n : ℕ) → has_length k n ≡ eqb n 30) → ss ≡ []
   lone k e h = nil_from_length ss (alone k (length bs) (length ss) (h (length bs)) (rw e at w.long) (length_of bs s ss w))
 
-  never : {X : Type 0} (k : Kind) → s.kind ≡ k → takes Replica k ≡ false → X
+  pub never : {X : Type 0} (k : Kind) → s.kind ≡ k → takes Replica k ≡ false → X
   never k e f = let t : takes Replica k ≡ true = rw e at w.taken in let z : ◌≡◌ {A = ℕ} 0 1 = cc in absurd (omega arith)
 
   as_packet : Packet s ss
@@ -170,27 +170,27 @@ packet_passes m bs s ss w g h =
     ap (λ x. and_then (carried proof_from_sealer x) (λ p. and_then (check_rule p.0 p.1) (λ _. Ok p))) ((one_opening m).opens Replica bs s ss w g)
     ∙ ap (λ x. and_then x (λ _. Ok (s, map encode (s ∷ ss)))) h
 
-record ProofPassed (m : Meaning) (v n c : ℕ) (bs : List ℕ) : Type 0 where
-  statements : List Statement
-  written : ProofWritten bs statements
-  genuine : AllByRecursion (Genuine m) statements
-  backed : check_backing v n c (map encode statements) 0 ≡ Ok tt
+pub record ProofPassed (m : Meaning) (v n c : ℕ) (bs : List ℕ) : Type 0 where
+  pub statements : List Statement
+  pub written : ProofWritten bs statements
+  pub genuine : AllByRecursion (Genuine m) statements
+  pub backed : check_backing v n c (map encode statements) 0 ≡ Ok tt
 
-proof_passed : (m : Meaning) (v n c : ℕ) (bs : List ℕ) → AllBelowBase 256 bs → check_proof m v n c bs ≡ Ok tt → ProofPassed m v n c bs
+pub proof_passed : (m : Meaning) (v n c : ℕ) (bs : List ℕ) → AllBelowBase 256 bs → check_proof m v n c bs ≡ Ok tt → ProofPassed m v n c bs
 unfolding check_proof
 proof_passed m v n c bs u e =
     let a = and_then_ok _ _ tt e in
     let w = (one_proof_opening m).opened bs a.0 u (carried_ok proof_from_sealer _ _ a.1) in
     record { statements = w.0; written = w.1; genuine = w.2; backed = subst (λ ps. check_backing v n c ps 0 ≡ Ok tt) w.3 a.2 }
 
-record PacketPassed (m : Meaning) (bs : List ℕ) (p : Statement × List (List ℕ)) : Type 0 where
-  rest : List Statement
-  written : Taken bs p.0 rest
-  genuine : AllByRecursion (Genuine m) (p.0 ∷ rest)
-  parts : p.1 ≡ map encode (p.0 ∷ rest)
-  rule : check_rule p.0 (map encode (p.0 ∷ rest)) ≡ Ok tt
+pub record PacketPassed (m : Meaning) (bs : List ℕ) (p : Statement × List (List ℕ)) : Type 0 where
+  pub rest : List Statement
+  pub written : Taken bs p.0 rest
+  pub genuine : AllByRecursion (Genuine m) (p.0 ∷ rest)
+  pub parts : p.1 ≡ map encode (p.0 ∷ rest)
+  pub rule : check_rule p.0 (map encode (p.0 ∷ rest)) ≡ Ok tt
 
-packet_passed : (m : Meaning) (bs : List ℕ) (p : Statement × List (List ℕ)) → AllBelowBase 256 bs → check_packet m bs ≡ Ok p → PacketPassed m bs p
+pub packet_passed : (m : Meaning) (bs : List ℕ) (p : Statement × List (List ℕ)) → AllBelowBase 256 bs → check_packet m bs ≡ Ok p → PacketPassed m bs p
 unfolding check_packet
 packet_passed m bs p u e =
     let a = and_then_ok _ _ p e in
