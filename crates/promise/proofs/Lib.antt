@@ -12,3 +12,4 @@ mod Carrying
 mod Steady
 mod Rounds
 mod Passing
+mod Lifts
