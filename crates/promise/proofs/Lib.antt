@@ -13,3 +13,5 @@ mod Steady
 mod Rounds
 mod Passing
 mod Lifts
+mod Lowered
+mod Deciding
