@@ -15,3 +15,4 @@ mod Passing
 mod Lifts
 mod Lowered
 mod Deciding
+mod Collecting
