@@ -16,3 +16,4 @@ mod Lifts
 mod Lowered
 mod Deciding
 mod Collecting
+mod Bounds
