@@ -20,7 +20,7 @@ some_pair : {s s' : Statement} {ss ss' : List Statement} → ◌≡◌ {A = Opti
 some_pair e = let f : ◌≡◌ {A = Statement × List Statement} _ _ = cc in (ap (λ p. p.0) f, ap (λ p. p.1) f)
 
 -- a reading with statements is of a packet that is taken
-is_take : (call : Call) (r : Reading) (s : Statement) (ss : List Statement) → Reads call r → statements_of r ≡ Some (s, ss) → (bs : List ℕ) × (call ≡ steps.take bs) × Taken bs s ss
+pub is_take : (call : Call) (r : Reading) (s : Statement) (ss : List Statement) → Reads call r → statements_of r ≡ Some (s, ss) → (bs : List ℕ) × (call ≡ steps.take bs) × Taken bs s ss
 is_take (steps.lead n c bs) r s ss x e = none_some (ap statements_of x.2) e
 is_take (steps.take bs) r s ss x e =
     let p = some_pair (sym (statements_back bs x.0 x.1.0 x.1.1) ∙ ap statements_of (sym x.1.2) ∙ e) in
@@ -30,7 +30,7 @@ is_take (steps.report_on n) r s ss x e = none_some (ap statements_of x) e
 is_take (steps.show n) r s ss x e = none_some (ap statements_of x) e
 is_take steps.run r s ss x e = none_some (ap statements_of x) e
 
-is_lead : (call : Call) (r : Reading) (n c : ℕ) (ss : List Statement) → Reads call r → r ≡ lead n c ss → (bs : List ℕ) × (call ≡ steps.lead n c bs)
+pub is_lead : (call : Call) (r : Reading) (n c : ℕ) (ss : List Statement) → Reads call r → r ≡ lead n c ss → (bs : List ℕ) × (call ≡ steps.lead n c bs)
 is_lead (steps.lead m d bs) r n c ss x e =
     let q : ◌≡◌ {A = Reading} (lead m d x.0) (lead n c ss) = sym x.2 ∙ e in
     let a : m ≡ n = cc in

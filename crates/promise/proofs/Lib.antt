@@ -17,3 +17,4 @@ mod Lowered
 mod Deciding
 mod Collecting
 mod Bounds
+mod Delivering
