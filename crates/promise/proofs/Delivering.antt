@@ -80,7 +80,7 @@ module _ {State : Type 0} (k : Setting State) where
       pub back : (t : Turn State) → Among t front → (e : Event State) × Among e es × (t.who ≡ e.who) × Reads e.call t.call
       pub forth : (e : Event State) → Among e es → (t : Turn State) × Among t front × (t.who ≡ e.who) × Reads e.call t.call
 
-    vote_called : (kd : Kind) (j t : ℕ) (bs : List ℕ) (call : Call) (r : Reading) → takes Replica kd ≡ true → ((n : ℕ) → n ≡ 30 → has_length kd n ≡ true) → AllBelowBase 256 (histories.handed call) → call ≡ steps.take bs → decode bs ≡ Some (statement kd j v n 0 c t) → Reads call r → r ≡ reading_of kd (statement kd j v n 0 c t) []
+    pub vote_called : (kd : Kind) (j t : ℕ) (bs : List ℕ) (call : Call) (r : Reading) → takes Replica kd ≡ true → ((n : ℕ) → n ≡ 30 → has_length kd n ≡ true) → AllBelowBase 256 (histories.handed call) → call ≡ steps.take bs → decode bs ≡ Some (statement kd j v n 0 c t) → Reads call r → r ≡ reading_of kd (statement kd j v n 0 c t) []
     vote_called kd j t bs call r tk l u q d x =
         readings.reads_as bs (statement kd j v n 0 c t) [] r (packet_of_vote bs (statement kd j v n 0 c t) (subst (λ (y : Call). AllBelowBase 256 (histories.handed y)) q u) d tk l) (subst (λ y. Reads y r) q x)
 

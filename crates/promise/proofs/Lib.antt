@@ -18,3 +18,5 @@ mod Deciding
 mod Collecting
 mod Bounds
 mod Delivering
+mod Leading
+mod Promises

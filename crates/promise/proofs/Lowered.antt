@@ -102,7 +102,7 @@ module _ {State : Type 0} (k : Setting State) where
     pub fitting : AllByRecursion Fitting out
     pub whole : histories.written e ≡ flat_map encode out
 
-  told_wrote : (e : Event State) (a : Option (List Statement)) (count : ℕ) → e.answer ≡ Ok count → Told e a → (out : List Statement) × (a ≡ Some out) × AllByRecursion Fitting out × (histories.written e ≡ flat_map encode out)
+  pub told_wrote : (e : Event State) (a : Option (List Statement)) (count : ℕ) → e.answer ≡ Ok count → Told e a → (out : List Statement) × (a ≡ Some out) × AllByRecursion Fitting out × (histories.written e ≡ flat_map encode out)
   told_wrote e (Some out) count q (wrote n _ p f w) = (out, refl, f, w)
   told_wrote e None count q (refused f p) = let z : ◌≡◌ {A = ℕ} 0 1 = cc in absurd (omega arith)
 
