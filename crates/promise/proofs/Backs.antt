@@ -1,5 +1,5 @@
 -- All that a correct replica wrote rests on what it did.
-use Rattle.std.proofs.Common.{◌≡◌, ℕ, ◌+◌, ◌%◌, ◌<◌, ◌≤◌, Bool, true, false, cond, eqb, ltb, ◌⊎◌, List, [], ◌∷◌, ◌++◌, map, Some, None, Option, sym, refl, ap, ◌∙◌, subst, inl, inr, arith}
+use Rattle.std.proofs.Common.{◌≡◌, ℕ, ◌+◌, ◌%◌, Bool, true, false, eqb, ltb, List, [], ◌∷◌, ◌++◌, Some, Option, sym, refl, ap, ◌∙◌, subst, inl, inr}
 use Rattle.std.proofs.lemmas.Bool.{cases_eq, cases_Bool, cond-true, cond-false}
 use Rattle.std.specs.List.{AllByRecursion}
 use Rattle.agreement.specs.Lists.{Among}
@@ -9,7 +9,7 @@ use Rattle.packet.specs.Statements.{statement}
 use Rattle.packet.specs.declared.kinds.Kind.{Kind}
 use Rattle.packet.specs.declared.kinds.Kind.TheVariants as kind
 use Rattle.packet.specs.declared.statements.Statement.{Statement}
-use Rattle.proof.specs.Roles.{primary, active, backups, every}
+use Rattle.proof.specs.Roles.{active}
 use Rattle.sealer.specs.Laws.{Genuine}
 use Rattle.ledger.specs.Sheets.{at, Page, Deed, mark, Prepared}
 use Rattle.ledger.specs.Sheets as sheets
@@ -22,16 +22,19 @@ use Rattle.slots.specs.Cores.{is_open, record_at, with_wish, wished, with_count,
 use Rattle.slots.specs.Records.{is_there}
 use Rattle.slots.specs.declared.records.Certificate.{Certificate}
 use Rattle.slots.specs.declared.cores.Core.{Core}
-use Rattle.promise.specs.Statements.{order, prepare, commit, report, wish, checkpoint, answer, said, prepared_statements, told_command, told_statements, decided_statements}
+use Rattle.promise.specs.Statements.{said, prepared_statements, told_statements, decided_statements}
 use Rattle.promise.specs.Steps.{Setting, Member, result_of, Confirms, Enters, Marks, Runs}
 use Rattle.promise.specs.Histories.{Correct}
 use Rattle.promise.proofs.Turns.{Reading, lead, an_order, a_prepare, a_commit, a_certificate, a_wish, a_mark, leave, report_on, show, run, handed, Passed, Readable, Admitted, Does, Answers, Turn, Written, Course, now, Honest, Unforged}
 use Rattle.promise.proofs.Turns.Course.{none, more}
 use Rattle.promise.proofs.Verdicts.{holding}
-use Rattle.promise.proofs.Rings.{point_of, page_at, sheet_of, Sized, page_is}
+use Rattle.promise.proofs.Rings.{point_of, sheet_of, Sized, page_is}
 use Rattle.promise.proofs.Refines.{call_deed, deed, refines, known_signer, prepare_vote, full_page}
 use Rattle.promise.proofs.Logs.{turn_deed, log, log_own, log_other, source, all_logged, was}
 use Rattle.promise.proofs.Origins.{CertificateFrom, took_certificate, came}
+
+pub some_same : {A : Type 0} {a b : A} → ◌≡◌ {A = Option A} (Some a) (Some b) → a ≡ b
+some_same e = cc
 
 -- each of a list
 pub all_each : {X : Type 0} (P : X → Type 0) {x : X} (xs : List X) → AllByRecursion P xs → Among x xs → P x

@@ -1,8 +1,7 @@
 -- No replica enters a view that there is not.
-use Rattle.std.proofs.Common.{◌≡◌, ℕ, zero, suc, ◌+◌, ◌<◌, ◌≤◌, ◌%◌, Bool, true, false, cond, eqb, ltb, List, [], ◌∷◌, max, min, get_or, set, length, Some, None, Option, sym, refl, ap, ◌∙◌, subst, inl, inr, arith, length-set, get_or-set_other, get_or-set_same}
+use Rattle.std.proofs.Common.{◌≡◌, ℕ, zero, suc, ◌+◌, ◌≤◌, ◌%◌, Bool, true, false, eqb, ltb, List, get_or, set, length, Some, None, Option, sym, refl, subst, inl, inr, arith, length-set, get_or-set_other, get_or-set_same}
 use Rattle.std.proofs.lemmas.Bool.{cases_eq, cases_Bool, cases_lt, and_parts, cond-true, cond-false, leb-true, ltb-true}
 use Rattle.std.proofs.lemmas.List.{get_or_past}
-use Rattle.packet.specs.Fields.{valid}
 use Rattle.packet.specs.declared.fields.View.{View}
 use Rattle.packet.specs.declared.kinds.Kind.TheVariants as kind
 use Rattle.packet.specs.declared.statements.Statement.{Statement}

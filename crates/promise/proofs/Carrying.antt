@@ -1,27 +1,26 @@
 -- What a replica carries out is read from the list, and so are its answers.
-use Rattle.std.proofs.Common.{◌≡◌, ℕ, suc, ◌+◌, ◌-◌, ◌%◌, Bool, true, false, cond, eqb, ltb, ◌⊎◌, List, [], ◌∷◌, Some, None, Option, sym, refl, ap, ◌∙◌, subst, inl, inr, arith}
+use Rattle.std.proofs.Common.{◌≡◌, ℕ, suc, ◌+◌, ◌-◌, ◌%◌, Bool, true, false, eqb, ltb, ◌⊎◌, List, ◌∷◌, Some, None, Option, sym, refl, ap, ◌∙◌, subst, inl, inr, arith}
 use Rattle.std.proofs.lemmas.Bool.{cases_eq, cases_Bool, and_parts, and_from, cond-true, cond-false, eq-eqb, ne_eqb}
-use Rattle.agreement.specs.Lists.{Among}
-use Rattle.agreement.specs.Lists.Among.{here, there}
+use Rattle.agreement.specs.Lists.Among.{there}
 use Rattle.packet.specs.declared.statements.Statement.{Statement}
 use Rattle.ledger.specs.Sheets.{Point, at, Page}
 use Rattle.ledger.proofs.Along.{good}
 use Rattle.ledger.proofs.Pages.{none_some}
 use Rattle.slots.specs.Checks.{run_tests}
-use Rattle.slots.specs.Cores.{is_open, is_decided, decision, record_at, with_wish, wished, with_mark, is_agreed, collected, mark_kept, with_count, prepare_counted, is_prepared}
+use Rattle.slots.specs.Cores.{is_open, is_decided, record_at, with_wish, wished, with_mark, is_agreed, collected, mark_kept, with_count, prepare_counted, is_prepared}
 use Rattle.slots.specs.Records.{is_there}
 use Rattle.slots.specs.declared.cores.Core.{Core}
 use Rattle.slots.specs.declared.records.Certificate.{Certificate}
 use Rattle.promise.specs.Statements.{answer}
-use Rattle.promise.specs.Steps.{Setting, Member, Confirms, Enters, Marks, Runs, result_of, state_of}
+use Rattle.promise.specs.Steps.{Setting, Member, Confirms, Enters, Marks, result_of, state_of}
 use Rattle.promise.specs.Histories.{Correct}
 use Rattle.promise.specs.Lists.{asked, command_of, state_after, answer_at}
-use Rattle.promise.proofs.Turns.{Reading, lead, an_order, a_prepare, a_commit, a_certificate, a_wish, a_mark, leave, report_on, show, run, ran, runs, Passed, Readable, Answers, Turn, Written, Decided, Course, now, Unforged}
+use Rattle.promise.proofs.Turns.{Reading, lead, an_order, a_prepare, a_commit, a_certificate, a_wish, a_mark, leave, report_on, show, run, ran, runs, Answers, Turn, Written, Decided, Course, now, Unforged}
 use Rattle.promise.proofs.Turns.Course.{none, more}
 use Rattle.promise.proofs.Verdicts.{holding}
-use Rattle.promise.proofs.Rings.{point_of, page_at, sheet_of, Sized, in_ring, page_is}
+use Rattle.promise.proofs.Rings.{point_of, page_at, in_ring, page_is}
 use Rattle.promise.proofs.Logs.{all_logged, now_own, now_other}
-use Rattle.promise.proofs.Backs.{Right, said_backed}
+use Rattle.promise.proofs.Backs.{some_same, Right, said_backed}
 use Rattle.promise.proofs.Decisions.{listed, Within, decided_within, to_log, from_log, list_has}
 
 -- what a call does to the count and to the service's state: nothing, or one slot more
@@ -116,9 +115,6 @@ record Told (core : Core) (n c : ℕ) : Type 0 where
   opened : is_open core n ≡ true
   there : is_there (record_at core n).decided ≡ true
   command : (record_at core n).decided.command ≡ c
-
-some_same : {A : Type 0} {a b : A} → ◌≡◌ {A = Option A} (Some a) (Some b) → a ≡ b
-some_same e = cc
 
 told_of : (core : Core) (n c : ℕ) → asked core n ≡ Some c → Told core n c
 told_of core n c e = elim (cases_Bool (is_decided core n)) [

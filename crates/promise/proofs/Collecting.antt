@@ -1,9 +1,7 @@
 -- What a collector holds was written, and so what it shows is right.
-use Rattle.std.proofs.Common.{◌≡◌, ℕ, zero, suc, ◌<◌, ◌≢◌, Bool, true, false, cond, ◌&&◌, eqb, ◌⊎◌, List, [], ◌∷◌, map, length, replicate, get_or, set, Some, None, Ok, Err, Option, Result, sym, refl, ap, ◌∙◌, subst, inl, inr, arith, length-set, get_or-set_other, get_or-set_same}
-use Rattle.std.proofs.lemmas.Bool.{cases_eq, cases_Bool, and_parts, cond-true, cond-false, eqb-true}
-use Rattle.std.proofs.lemmas.List.{get_or_past}
+use Rattle.std.proofs.Common.{◌≡◌, ℕ, zero, suc, ◌<◌, Bool, true, false, cond, eqb, List, [], ◌∷◌, length, replicate, get_or, set, Some, None, Ok, Err, Result, sym, refl, ap, ◌∙◌, subst, inl, inr, arith, length-set, get_or-set_other, get_or-set_same}
+use Rattle.std.proofs.lemmas.Bool.{cases_eq, and_parts, eqb-true}
 use Rattle.std.specs.Int.Digits.{AllBelowBase}
-use Rattle.std.specs.List.{flat_map, AllByRecursion}
 use Rattle.agreement.specs.Lists.{Among}
 use Rattle.agreement.specs.Lists.Among.{here, there}
 use Rattle.packet.specs.Laws as packets
@@ -22,7 +20,7 @@ use Rattle.refusal.specs.declared.collectors.CollectorFault.{CollectorFault}
 use Rattle.sealer.specs.Laws.{Genuine}
 use Rattle.sealer.specs.Seals.{Meaning, open_packet}
 use Rattle.sealer.proofs.Openings.{carried_ok, one_opening}
-use Rattle.collector.specs.Collectors.{new_waiting, added, by_opening, by_check, check_answer, with_result, closing}
+use Rattle.collector.specs.Collectors.{by_opening, by_check, check_answer, with_result, closing}
 use Rattle.collector.specs.Laws.{Gave, Closes}
 use Rattle.collector.specs.declared.collectors.Closed.{Closed}
 use Rattle.collector.specs.declared.collectors.Waiting.{Waiting}
@@ -30,10 +28,11 @@ use Rattle.collector.proofs.Pairs.{closes_exactly}
 use Rattle.ledger.proofs.Pages.{none_some}
 use Rattle.promise.specs.Statements.{answer}
 use Rattle.promise.specs.Steps.{Setting}
-use Rattle.promise.specs.Histories.{Event, Correct, GenuinelyWritten}
+use Rattle.promise.specs.Histories.{Event, Correct}
 use Rattle.promise.specs.Collections.{Collected, HonestPackets}
 use Rattle.promise.proofs.Refines.{known_signer}
 use Rattle.promise.proofs.Turns as turns
+use Rattle.promise.proofs.Backs.{some_same}
 use Rattle.promise.proofs.Lifts.{Lifted}
 use Rattle.promise.proofs.Lowered.{honest}
 
@@ -68,9 +67,6 @@ pub record Holds (m : Meaning) (n : ℕ) (ps : List (List ℕ)) (w : Waiting) : 
 
 more_holds : {m : Meaning} {n : ℕ} {p : List ℕ} {ps : List (List ℕ)} {w : Waiting} → Holds m n ps w → Holds m n (p ∷ ps) w
 more_holds h = record { slot = h.slot; long = h.long; gave = λ i r g. more_answered (h.gave i r g) }
-
-some_same : {A : Type 0} {a b : A} → ◌≡◌ {A = Option A} (Some a) (Some b) → a ≡ b
-some_same e = cc
 
 nobody_gave : (n i r : ℕ) → get_or (replicate n None) i None ≡ Some r → ⊥
 nobody_gave zero i r e = none_some refl e

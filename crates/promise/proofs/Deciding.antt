@@ -1,11 +1,9 @@
 -- Who has decided by a history of bytes has by its reading, and the other way round.
-use Rattle.std.proofs.Common.{◌≡◌, ℕ, Bool, true, false, ◌⊎◌, List, [], ◌∷◌, Some, None, Ok, Err, Option, Result, sym, refl, ap, ◌∙◌, subst, inl, inr, arith}
-use Rattle.agreement.specs.Lists.{Among}
+use Rattle.std.proofs.Common.{◌≡◌, ℕ, List, [], ◌∷◌, Some, None, Ok, Option, sym, refl, ap, ◌∙◌, subst, inl, inr, arith}
 use Rattle.packet.specs.declared.kinds.Kind.TheVariants as kind
 use Rattle.packet.specs.declared.statements.Statement.{Statement}
-use Rattle.proof.specs.Roles.{primary}
 use Rattle.ledger.proofs.Pages.{none_some}
-use Rattle.promise.specs.Statements.{order, prepare, commit}
+use Rattle.promise.specs.Statements.{commit}
 use Rattle.promise.specs.Steps.{Setting, Member, Call}
 use Rattle.promise.specs.Steps as steps
 use Rattle.promise.specs.Histories.{Event}
@@ -13,8 +11,8 @@ use Rattle.promise.specs.Histories as histories
 use Rattle.promise.proofs.Turns.{Reading, lead, an_order, a_prepare, a_commit, a_certificate, leave, report_on, show, run, Turn}
 use Rattle.promise.proofs.Turns as turns
 use Rattle.promise.proofs.Readings.{Reads, Taken, readable, statements_of, statements_back, reads_as}
-use Rattle.promise.proofs.Lifts.{turn_of, Told, wrote, refused, Lifted}
-use Rattle.promise.proofs.Lowered.{Lowered, lowered, Raised, raised}
+use Rattle.promise.proofs.Lifts.{turn_of, Told, wrote, Lifted}
+use Rattle.promise.proofs.Lowered.{lowered, raised}
 
 some_pair : {s s' : Statement} {ss ss' : List Statement} → ◌≡◌ {A = Option (Statement × List Statement)} (Some (s, ss)) (Some (s', ss')) → (s ≡ s') × (ss ≡ ss')
 some_pair e = let f : ◌≡◌ {A = Statement × List Statement} _ _ = cc in (ap (λ p. p.0) f, ap (λ p. p.1) f)

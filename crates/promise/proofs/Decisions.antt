@@ -9,26 +9,25 @@ use Rattle.packet.specs.declared.kinds.Kind.TheVariants as kind
 use Rattle.packet.specs.declared.statements.Statement.{Statement}
 use Rattle.proof.specs.Laws.{EachSays, Says}
 use Rattle.proof.specs.Laws.EachSays.{more as says_more}
-use Rattle.proof.specs.Roles.{primary, active, backups, every}
+use Rattle.proof.specs.Roles.{primary, backups, every}
 use Rattle.ledger.specs.Sheets.{Point, Page, Sheet, Deed, mark, Prepared}
 use Rattle.ledger.specs.Sheets as sheets
 use Rattle.ledger.proofs.Along.{good, kept}
 use Rattle.ledger.proofs.Completes.{completes, decides}
 use Rattle.ledger.proofs.Pages.{none_some}
-use Rattle.slots.specs.Checks.{take_prepare}
-use Rattle.slots.specs.Cores.{record_at, prepare_counted, is_prepared}
+use Rattle.slots.specs.Cores.{prepare_counted, is_prepared}
 use Rattle.slots.specs.declared.cores.Core.{Core}
 use Rattle.promise.specs.Statements.{order, prepare, commit}
 use Rattle.promise.specs.Steps.{Setting, Member, Confirms}
 use Rattle.promise.specs.Histories.{Correct}
-use Rattle.promise.proofs.Turns.{Reading, lead, an_order, a_prepare, a_commit, a_certificate, Readable, Admitted, Does, Answers, Turn, Accepted, Written, Led, TookOrder, TookPrepare, TookCommit, TookCertificate, DecidedIn, Decided, Course, now, Unforged}
+use Rattle.promise.proofs.Turns.{Reading, lead, an_order, a_prepare, a_commit, a_certificate, Readable, Admitted, Does, Answers, Turn, Accepted, Led, TookOrder, Decided, Course, now, Unforged}
 use Rattle.promise.proofs.Turns.Course.{none, more}
 use Rattle.promise.proofs.Rings.{page_at, sheet_of, Sized}
 use Rattle.promise.proofs.Refines.{call_deed, deed, known_signer, prepare_vote, full_page}
 use Rattle.promise.proofs.Logs.{turn_deed, log, log_own, log_other, logged, source, all_logged, refined, now_own}
 use Rattle.promise.proofs.Origins.{OrderFrom, led, took, PrepareFrom, took_prepare, CommitFrom, took_commit, CertificateFrom, took_certificate, came}
 use Rattle.promise.proofs.Backs.{cert_says}
-use Rattle.promise.proofs.Rules.{Said, said_more, world, rightly, commit_part, given, Origin, origin, rules}
+use Rattle.promise.proofs.Rules.{Said, said_more, world, rightly, commit_part, given, origin, rules}
 
 abbrev pub pick : Option Point → ℕ → ℕ
 pick None d = d

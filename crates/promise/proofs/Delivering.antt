@@ -1,5 +1,5 @@
 -- The deliveries of a round, read.
-use Rattle.std.proofs.Common.{◌≡◌, ℕ, ◌*◌, ◌≤◌, ◌<◌, Bool, true, false, ◌⊎◌, List, [], ◌∷◌, ◌++◌, length, Some, None, Ok, Err, Option, sym, refl, ap, ◌∙◌, subst, inl, inr, arith}
+use Rattle.std.proofs.Common.{◌≡◌, ℕ, ◌≤◌, true, List, [], ◌∷◌, ◌++◌, length, Some, Ok, Option, sym, refl, ap, ◌∙◌, subst, arith}
 use Rattle.std.proofs.lemmas.Bool.{eq-eqb, or_left}
 use Rattle.std.proofs.lemmas.List.{append-nil}
 use Rattle.std.specs.Int.Digits.{AllBelowBase}
@@ -7,8 +7,6 @@ use Rattle.std.specs.List.{flat_map}
 use Rattle.agreement.specs.Lists.{Among}
 use Rattle.agreement.specs.Lists.Among.{here, there}
 use Rattle.agreement.proofs.Lists.{each_cons}
-use Rattle.packet.specs.Laws as packets
-use Rattle.packet.specs.Laws.{Sound}
 use Rattle.packet.specs.Packets.{has_length, takes}
 use Rattle.packet.specs.Statements.{encode, decode, statement}
 use Rattle.packet.specs.declared.kinds.Kind.{Kind}
@@ -17,7 +15,7 @@ use Rattle.packet.specs.declared.packets.Reader.TheVariants.{Replica}
 use Rattle.packet.specs.declared.statements.Statement.{Statement}
 use Rattle.packet.proofs.Encodings.{one_encoding, reads_as}
 use Rattle.packet.proofs.Readings.{length_joined}
-use Rattle.proof.specs.Roles.{primary, active, backups}
+use Rattle.proof.specs.Roles.{active, backups}
 use Rattle.promise.specs.Statements.{prepare, commit}
 use Rattle.promise.specs.Steps.{Setting, Call}
 use Rattle.promise.specs.Steps as steps
@@ -30,7 +28,7 @@ use Rattle.promise.proofs.Turns.{Reading, a_prepare, a_commit, Turn, HandsPrepar
 use Rattle.promise.proofs.Turns as turns
 use Rattle.promise.proofs.Readings.{Reads, Taken, reading_of, statements_of}
 use Rattle.promise.proofs.Readings as readings
-use Rattle.promise.proofs.Lifts.{turn_of, Told, Lifted, nothing, kept, left_out}
+use Rattle.promise.proofs.Lifts.{turn_of, Told, Lifted, kept, left_out}
 use Rattle.promise.proofs.Lowered.{written_lowered}
 use Rattle.promise.proofs.Deciding.{is_take}
 

@@ -1,28 +1,23 @@
 -- A round of bytes, read.
-use Rattle.std.proofs.Common.{◌≡◌, ℕ, suc, ◌+◌, ◌*◌, ◌≤◌, ◌<◌, Bool, true, false, ◌&&◌, eqb, leb, ◌⊎◌, List, [], ◌∷◌, ◌++◌, map, length, Some, None, Ok, Err, Option, sym, refl, ap, ◌∙◌, subst, inl, inr, arith}
-use Rattle.std.proofs.lemmas.Bool.{and_parts, and_from, eq-eqb, le-leb, leb-true, or_left}
+use Rattle.std.proofs.Common.{◌≡◌, ℕ, ◌+◌, ◌≤◌, true, List, [], ◌∷◌, ◌++◌, map, length, Some, sym, refl, ap, ◌∙◌, subst, arith}
+use Rattle.std.proofs.lemmas.Bool.{and_parts, and_from, eq-eqb, le-leb, or_left}
 use Rattle.std.proofs.lemmas.Bool.Decides.{nat_tests}
 use Rattle.std.specs.List.{flat_map, AllByRecursion}
-use Rattle.agreement.specs.Lists.{Among}
 use Rattle.agreement.specs.Lists.Among.{here, there}
-use Rattle.packet.specs.Fields.{valid, proper}
-use Rattle.packet.specs.Laws as packets
-use Rattle.packet.specs.Laws.{Sound}
+use Rattle.packet.specs.Fields.{valid}
 use Rattle.packet.specs.Packets.{has_length, parts_of}
 use Rattle.packet.specs.Proofs.{ProofWritten, has_proof_length}
 use Rattle.packet.specs.Statements.{encode}
 use Rattle.packet.specs.declared.kinds.Kind.TheVariants as kind
-use Rattle.packet.specs.declared.packets.Reader.TheVariants.{Replica}
 use Rattle.packet.specs.declared.statements.Statement.{Statement}
 use Rattle.packet.proofs.Encodings.{same_encoding}
 use Rattle.packet.proofs.Readings.{length_joined, parts_joined}
-use Rattle.proof.specs.Roles.{primary, active, backups}
+use Rattle.proof.specs.Roles.{primary}
 use Rattle.proof.proofs.Feeding.{among_left, among_right}
 use Rattle.ledger.proofs.Along.{kept as all_kept}
 use Rattle.ledger.proofs.Groups.{primary_active}
 use Rattle.slots.specs.Cores.{is_open, record_at}
-use Rattle.slots.specs.declared.cores.Core.{Core}
-use Rattle.promise.specs.Statements.{Fitting, order, prepare, commit}
+use Rattle.promise.specs.Statements.{Fitting, order}
 use Rattle.promise.specs.Steps.{Setting, Member, Call}
 use Rattle.promise.specs.Steps as steps
 use Rattle.promise.specs.Histories.{Event, History}
@@ -31,15 +26,14 @@ use Rattle.promise.specs.Histories as histories
 use Rattle.promise.specs.Rounds as rounds
 use Rattle.promise.proofs.Turns.{Reading, lead, an_order, a_prepare, a_commit, Turn, Course, HandsPrepare, HandsCommit, Delivered}
 use Rattle.promise.proofs.Turns as turns
-use Rattle.promise.proofs.Readings.{Reads, Taken, reading_of, reads_as}
+use Rattle.promise.proofs.Readings.{Reads, Taken, reads_as}
 use Rattle.promise.proofs.Rings.{in_ring}
 use Rattle.promise.proofs.Logs.{all_logged, was}
-use Rattle.promise.proofs.Backs.{all_each}
 use Rattle.promise.proofs.Bounds.{bounded}
 use Rattle.promise.proofs.Passing.{one_proof_reading}
-use Rattle.promise.proofs.Lifts.{turn_of, Told, wrote, Lifted, same_now, lift}
+use Rattle.promise.proofs.Lifts.{turn_of, Lifted, same_now, lift}
 use Rattle.promise.proofs.Lowered.{lowered, told_wrote}
-use Rattle.promise.proofs.Delivering.{handed_bytes, Down, KeptAt, kept_ok, kept_roomy, down, vote_called}
+use Rattle.promise.proofs.Delivering.{handed_bytes, Down, KeptAt, kept_ok, kept_roomy, vote_called}
 
 -- statements that fit are read in one way
 same_fitting : (xs ys : List Statement) → AllByRecursion Fitting xs → AllByRecursion Fitting ys → map encode xs ≡ map encode ys → xs ≡ ys
@@ -115,12 +109,6 @@ module _ {State : Type 0} (k : Setting State) where
         ∙ ap (λ (u : ℕ). order (primary v) u n c s ∷ y.0) view₁ in
         record { seal = s; proof = y.0; written = y.1; fitting = subst (AllByRecursion Fitting) out x.fitting; whole = x.whole ∙ ap (flat_map encode) out }
 
-    s : Statement
-    s = order (primary v) v n c ordered.seal
-
-    ss : List Statement
-    ss = ordered.proof
-
     -- its packet is an order
     pub packet : Taken (histories.written rd.leads) (order (primary v) v n c ordered.seal) ordered.proof
     packet =
@@ -134,9 +122,6 @@ module _ {State : Type 0} (k : Setting State) where
           sound = (record { kept = and_from _ _ (le-leb (primary v) 3 (omega arith)) (and_from _ _ valid_view (and_from _ _ valid_slot refl)); fits = f.body; seal = f.seal }, ordered.written.sound);
           whole = sym ordered.whole;
         }
-
-    abbrev O : Reading
-    O = an_order (order (primary v) v n c ordered.seal) ordered.proof
 
     pub reads_order : (call : Call) → call ≡ steps.take (histories.written rd.leads) → Reads call (an_order (order (primary v) v n c ordered.seal) ordered.proof)
     reads_order call q = subst (λ y. Reads y (an_order (order (primary v) v n c ordered.seal) ordered.proof)) (sym q) (order (primary v) v n c ordered.seal, (ordered.proof, packet, refl))

@@ -1,12 +1,10 @@
 -- A history of bytes read as a history of statements. Calls without room for a reply and calls that cannot be read are refused,
 -- change nothing, and are left out.
-use Rattle.std.proofs.Common.{◌≡◌, ℕ, ◌+◌, ◌≤◌, ◌<◌, Bool, true, false, cond, eqb, leb, ◌⊎◌, List, [], ◌∷◌, ◌++◌, map, length, take, drop, Some, None, Ok, Err, Option, Result, sym, refl, ap, ◌∙◌, subst, inl, inr, arith}
+use Rattle.std.proofs.Common.{◌≡◌, ℕ, ◌≤◌, Bool, cond, eqb, leb, List, [], ◌∷◌, ◌++◌, length, take, drop, Some, None, Ok, Err, Option, Result, refl, ap, ◌∙◌, inl, inr, arith}
 use Rattle.std.proofs.lemmas.Bool.{cases_eq, cases_lt, cond-true, cond-false, eq-eqb, ne_eqb, le-leb}
 use Rattle.std.proofs.lemmas.List.{take-append-le, take_all}
 use Rattle.std.specs.Int.Digits.{AllBelowBase}
 use Rattle.std.specs.List.{flat_map, AllByRecursion}
-use Rattle.agreement.specs.Lists.{Among}
-use Rattle.agreement.specs.Lists.Among.{here, there}
 use Rattle.packet.specs.Statements.{encode}
 use Rattle.packet.specs.declared.statements.Statement.{Statement}
 use Rattle.packet.proofs.Readings.{and_then_ok}

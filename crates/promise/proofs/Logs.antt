@@ -1,16 +1,14 @@
 -- The deeds of each replica of a history.
-use Rattle.std.proofs.Common.{◌≡◌, ℕ, zero, suc, ◌%◌, ◌<◌, true, false, cond, eqb, List, [], ◌∷◌, Some, None, Option, replicate, length, get_or, sym, refl, ap, ◌∙◌, subst, inl, inr, arith, rules}
+use Rattle.std.proofs.Common.{◌≡◌, ℕ, zero, suc, ◌%◌, cond, eqb, List, [], ◌∷◌, replicate, length, get_or, sym, refl, ap, ◌∙◌, subst, inl, inr}
 use mathlib.Core.Path.{fun_ext}
 use Rattle.std.proofs.lemmas.Bool.{cases_eq, cases_Bool, cond-true, cond-false, eq-eqb, ne_eqb}
 use Rattle.agreement.specs.Lists.{Among}
 use Rattle.agreement.specs.Lists.Among.{here, there}
-use Rattle.packet.specs.declared.statements.Statement.{Statement}
 use Rattle.ledger.specs.Sheets.{Page, Sheet, start, Deed, Did}
 use Rattle.ledger.specs.Sheets.Did.{begin, go}
 use Rattle.ledger.specs.Sheets as sheets
-use Rattle.slots.specs.Cores.{first_core, in_window, record_at}
+use Rattle.slots.specs.Cores.{first_core, in_window}
 use Rattle.slots.specs.Records.{blank}
-use Rattle.slots.specs.declared.cores.Core.{Core}
 use Rattle.slots.specs.declared.records.Record.{Record}
 use Rattle.promise.specs.Steps.{Setting, Member}
 use Rattle.promise.specs.Histories.{Correct}

@@ -1,13 +1,12 @@
 -- What a history of bytes says, its reading says, and the other way round.
-use Rattle.std.proofs.Common.{◌≡◌, ℕ, ◌+◌, ◌<◌, Bool, true, false, cond, eqb, ◌⊎◌, List, [], ◌∷◌, ◌++◌, map, is_some, Some, None, Ok, Err, Option, Result, sym, refl, ap, ◌∙◌, subst, inl, inr, arith}
+use Rattle.std.proofs.Common.{◌≡◌, ℕ, ◌+◌, true, cond, eqb, List, [], ◌∷◌, map, is_some, Some, None, Ok, Err, Option, Result, sym, refl, ap, ◌∙◌, subst, inl, inr, arith}
 use Rattle.std.proofs.lemmas.Bool.{cases_eq, cond-true, cond-false, eq-eqb, ne_eqb}
 use Rattle.std.specs.List.{flat_map, AllByRecursion}
 use Rattle.agreement.specs.Lists.{Among}
 use Rattle.agreement.specs.Lists.Among.{here, there}
 use Rattle.agreement.proofs.Lists.{among_map}
 use Rattle.packet.specs.Laws.{Sound}
-use Rattle.packet.specs.Packets.{parts_of, sealed_part}
-use Rattle.packet.specs.Parts.{is_statement}
+use Rattle.packet.specs.Packets.{parts_of}
 use Rattle.packet.specs.Statements.{encode}
 use Rattle.packet.specs.declared.kinds.Kind.{Kind}
 use Rattle.packet.specs.declared.kinds.Kind.TheVariants as kind
@@ -15,7 +14,6 @@ use Rattle.packet.specs.declared.statements.Statement.{Statement}
 use Rattle.packet.proofs.Encodings.{one_encoding, same_encoding}
 use Rattle.packet.proofs.Readings.{parts_joined}
 use Rattle.refusal.specs.declared.replicas.ReplicaFault.{ReplicaFault}
-use Rattle.sealer.specs.Laws.{Genuine}
 use Rattle.sealer.specs.Seals.{genuine_part}
 use Rattle.promise.specs.Statements.{Fitting}
 use Rattle.promise.specs.Steps.{Setting, Member, Call}

@@ -1,5 +1,5 @@
 -- Which call a deed came from, and what was checked of it.
-use Rattle.std.proofs.Common.{◌≡◌, ℕ, ◌+◌, ◌&&◌, true, cond, eqb, ltb, List, [], ◌∷◌, map, Some, None, Ok, Option, sym, refl, ap, ◌∙◌, subst, inl, inr}
+use Rattle.std.proofs.Common.{◌≡◌, ℕ, ◌&&◌, cond, eqb, ltb, List, ◌∷◌, Some, None, Option, sym, refl, ap, ◌∙◌, subst, inl, inr}
 use Rattle.std.proofs.lemmas.Bool.{cases_Bool, and_parts, cond-true, cond-false, eqb-true, eqb-false, not-true}
 use Rattle.std.specs.List.{AllByRecursion}
 use Rattle.packet.specs.Fields.{rule, valid}

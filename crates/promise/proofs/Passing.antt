@@ -1,5 +1,5 @@
 -- A call of bytes that can be read passes exactly if its reading does, and does the same.
-use Rattle.std.proofs.Common.{◌≡◌, ℕ, suc, ◌+◌, Bool, true, false, eqb, List, [], ◌∷◌, ◌++◌, map, length, Ok, Err, Result, sym, refl, ap, ◌∙◌, subst, arith}
+use Rattle.std.proofs.Common.{◌≡◌, ℕ, Bool, false, eqb, List, [], ◌∷◌, ◌++◌, map, length, Ok, Result, sym, refl, ap, ◌∙◌, subst, arith}
 use Rattle.std.proofs.lemmas.Bool.{ne_eqb}
 use Rattle.std.proofs.lemmas.Grind.{flat_map-append}
 use Rattle.std.proofs.lemmas.List.{append-nil}
@@ -14,7 +14,7 @@ use Rattle.packet.specs.declared.statements.Statement.{Statement}
 use Rattle.packet.proofs.Encodings.{one_encoding}
 use Rattle.packet.proofs.Readings.{and_then_ok}
 use Rattle.packet.proofs.Runs.{one_proof}
-use Rattle.proof.specs.Checks.{check_packet, check_proof, check_rule, rule_of}
+use Rattle.proof.specs.Checks.{check_packet, check_proof, rule_of}
 use Rattle.refusal.specs.Refusals.{and_then, carried, from_proof}
 use Rattle.sealer.specs.Laws.{Genuine}
 use Rattle.sealer.specs.Seals.{Meaning}
@@ -25,8 +25,8 @@ use Rattle.promise.specs.Statements.{Fitting}
 use Rattle.promise.specs.Steps.{Setting, Member, Call, judge_call, seal_in, Acts, Takes, TakesRead, packet_of}
 use Rattle.promise.specs.Steps as steps
 use Rattle.promise.specs.Histories as histories
-use Rattle.promise.proofs.Turns.{Reading, lead, an_order, a_prepare, a_commit, a_certificate, a_wish, a_mark, leave, report_on, show, run, Passed, Readable, Admitted, Does, seal_of}
-use Rattle.promise.proofs.Readings.{never, lone, Reads, Taken, reading_of, same_encodings, one_reading, proof_passes, packet_passes, ProofPassed, proof_passed, PacketPassed, packet_passed}
+use Rattle.promise.proofs.Turns.{Reading, lead, leave, report_on, show, run, Admitted, Does, seal_of}
+use Rattle.promise.proofs.Readings.{never, lone, Reads, Taken, reading_of, same_encodings, proof_passes, packet_passes, proof_passed, packet_passed}
 
 -- a proof is read in one way
 pub one_proof_reading : (bs : List ℕ) (ss ss' : List Statement) → ProofWritten bs ss → ProofWritten bs ss' → ss ≡ ss'

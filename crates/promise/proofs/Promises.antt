@@ -1,5 +1,5 @@
 -- The group's promise stands.
-use Rattle.std.proofs.Common.{◌≡◌, ℕ, true, List, ◌∷◌, ◌++◌, Some, Ok, sym, refl, ap, ◌∙◌, subst}
+use Rattle.std.proofs.Common.{◌≡◌, ℕ, true, List, ◌∷◌, Some, sym, ap, ◌∙◌, subst}
 use Rattle.agreement.specs.Lists.{Among}
 use Rattle.proof.specs.Roles.{active}
 use Rattle.slots.specs.Cores.{is_open}
@@ -22,12 +22,6 @@ use Rattle.promise.proofs.Delivering.{down}
 use Rattle.promise.proofs.Leading.{round}
 
 module _ {State : Type 0} (k : Setting State) (h : List (Event State)) (hist : History k h) (unf : Unforged k h) where
-  ts : List (Turn State)
-  ts = (lift k hist).turns
-
-  l : Lifted k h (lift k hist).turns
-  l = (lift k hist).lifted
-
   course : Course k (lift k hist).turns
   course = (lift k hist).course
 

@@ -1,5 +1,5 @@
 -- A round that nothing disturbs decides.
-use Rattle.std.proofs.Common.{◌≡◌, ℕ, ◌<◌, Bool, true, false, ◌⊎◌, List, [], ◌∷◌, ◌++◌, map, Some, None, Ok, Option, sym, refl, ap, ◌∙◌, subst, inl, inr, arith}
+use Rattle.std.proofs.Common.{◌≡◌, ℕ, ◌<◌, true, ◌⊎◌, List, [], ◌∷◌, ◌++◌, map, Some, Ok, Option, sym, refl, ap, ◌∙◌, subst, inl, inr, arith}
 use Rattle.std.proofs.lemmas.Bool.{cases_eq}
 use Rattle.std.specs.List.{AllByRecursion}
 use Rattle.agreement.specs.Lists.{Among}
@@ -17,17 +17,15 @@ use Rattle.ledger.proofs.Along.{Kept, kept}
 use Rattle.ledger.proofs.Groups.{primary_active, backup_active, backup_if, not_primary}
 use Rattle.ledger.proofs.Kept.{newest}
 use Rattle.slots.specs.Cores.{is_open, record_at}
-use Rattle.slots.specs.declared.cores.Core.{Core}
 use Rattle.promise.specs.Statements.{order, prepare, commit}
 use Rattle.promise.specs.Steps.{Setting, Member}
-use Rattle.promise.specs.Histories.{Correct}
-use Rattle.promise.proofs.Turns.{Reading, lead, an_order, a_prepare, a_commit, Readable, Admitted, Answers, Turn, Accepted, Written, Led, TookOrder, Decided, Course, now, Unforged, Delivered, HandsPrepare, HandsCommit, Deliveries, Round}
+use Rattle.promise.proofs.Turns.{Reading, lead, an_order, a_prepare, a_commit, Admitted, Answers, Turn, Accepted, Written, Led, TookOrder, Decided, Course, now, Unforged, Delivered, HandsPrepare, HandsCommit, Deliveries, Round}
 use Rattle.promise.proofs.Turns.Course.{more}
 use Rattle.promise.proofs.Turns.Deliveries.{start, a_prepare_more, a_commit_more}
 use Rattle.promise.proofs.Rings.{sheet_of, in_ring}
-use Rattle.promise.proofs.Logs.{turn_deed, log, source, all_logged, now_other, was}
+use Rattle.promise.proofs.Logs.{log, source, all_logged, now_other, was}
 use Rattle.promise.proofs.Origins.{came}
-use Rattle.promise.proofs.Rules.{Said, backed}
+use Rattle.promise.proofs.Rules.{backed}
 use Rattle.promise.proofs.Decisions.{log_within, deed_is, in_log, prepare_call, commit_call}
 use Rattle.promise.proofs.Steady.{Calm, calm_genuine, accepts, Steady, steady_more, held, prepare_taken, commit_taken, takes_order, takes_prepare, takes_commit}
 

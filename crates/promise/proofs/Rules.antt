@@ -1,5 +1,5 @@
 -- Every history keeps the rules of agreement.
-use Rattle.std.proofs.Common.{◌≡◌, ℕ, ◌+◌, ◌<◌, ◌≤◌, Bool, true, false, ◌⊎◌, List, [], ◌∷◌, ◌++◌, length, Some, Option, sym, refl, ap, ◌∙◌, subst, inl, inr, arith}
+use Rattle.std.proofs.Common.{◌≡◌, ℕ, ◌⊎◌, List, [], ◌∷◌, ◌++◌, Some, Option, sym, refl, ap, ◌∙◌, subst, inl, inr, arith}
 use Rattle.std.proofs.lemmas.Bool.{cases_eq}
 use Rattle.std.specs.List.{AllByRecursion}
 use Rattle.agreement.specs.Groups.{Group, Sound as SoundGroup}
@@ -8,13 +8,13 @@ use Rattle.agreement.specs.Lists.{Among}
 use Rattle.agreement.specs.Lists.Among.{here, there}
 use Rattle.agreement.specs.Reports.{Justification}
 use Rattle.agreement.specs.Rules.{Rules}
-use Rattle.agreement.specs.Votes.{Execution, Certificate, Settled}
+use Rattle.agreement.specs.Votes.{Execution, Certificate}
 use Rattle.packet.specs.Laws.{Sound}
 use Rattle.packet.specs.declared.kinds.Kind.{Kind}
 use Rattle.packet.specs.declared.kinds.Kind.TheVariants as kind
 use Rattle.packet.specs.declared.statements.Statement.{Statement}
 use Rattle.proof.specs.Laws.{Backed as OrderBacked}
-use Rattle.proof.specs.Roles.{primary, active, backups, every}
+use Rattle.proof.specs.Roles.{primary, active}
 use Rattle.proof.proofs.Actives.{active_quorum}
 use Rattle.proof.proofs.Feeding.{RecordedIn, UnforgedIn, justifies}
 use Rattle.proof.proofs.Places.{same_statement}
@@ -28,10 +28,10 @@ use Rattle.slots.specs.declared.cores.Core.{Core}
 use Rattle.promise.specs.Statements.{order, prepare, commit, report}
 use Rattle.promise.specs.Steps.{Setting, Member}
 use Rattle.promise.specs.Histories.{Correct}
-use Rattle.promise.proofs.Turns.{Reading, lead, an_order, a_prepare, a_commit, a_certificate, handed, Readable, Admitted, Does, Answers, Turn, Written, Course, now, Unforged}
-use Rattle.promise.proofs.Rings.{sheet_of, Sized}
-use Rattle.promise.proofs.Logs.{turn_deed, log, source, all_logged, was}
-use Rattle.promise.proofs.Origins.{said, OrderFrom, led, took, PrepareFrom, took_prepare, CommitFrom, took_commit, From, Came, came, Busy}
+use Rattle.promise.proofs.Turns.{Reading, handed, Readable, Does, Answers, Turn, Written, Course, now, Unforged}
+use Rattle.promise.proofs.Rings.{sheet_of}
+use Rattle.promise.proofs.Logs.{log, source, all_logged, was}
+use Rattle.promise.proofs.Origins.{said, OrderFrom, led, took, PrepareFrom, took_prepare, CommitFrom, took_commit, From, came, Busy}
 use Rattle.promise.proofs.Backs.{all_each, Backed, written_more, attest, Given, said_backed}
 
 -- i wrote the statement, under some seal

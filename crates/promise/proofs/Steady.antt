@@ -1,6 +1,6 @@
 -- While the active replicas of a view stay in it: what they hold of a slot that was ordered there.
-use Rattle.std.proofs.Common.{◌≡◌, ℕ, ◌<◌, ◌≤◌, Bool, true, false, cond, not, ◌&&◌, ◌||◌, eqb, ltb, leb, ◌⊎◌, List, [], ◌∷◌, ◌++◌, map, Some, None, Ok, Option, sym, refl, ap, ◌∙◌, subst, inl, inr, arith}
-use Rattle.std.proofs.lemmas.Bool.{cases_eq, cases_lt, cases_Bool, and_parts, cond-true, cond-false, eq-eqb, ne_eqb, not_from_false, or_left, or_right}
+use Rattle.std.proofs.Common.{◌≡◌, ℕ, ◌<◌, Bool, true, false, not, ◌&&◌, eqb, leb, List, [], ◌∷◌, ◌++◌, map, Some, None, Ok, Option, sym, refl, ap, ◌∙◌, subst, inl, inr, arith}
+use Rattle.std.proofs.lemmas.Bool.{cases_eq, cases_lt, cases_Bool, cond-true, cond-false, eq-eqb, ne_eqb, not_from_false, or_left, or_right}
 use Rattle.std.specs.List.{AllByRecursion}
 use Rattle.agreement.specs.Groups as groups
 use Rattle.agreement.specs.Lists.{Among}
@@ -27,14 +27,14 @@ use Rattle.slots.specs.declared.records.Record.{Record}
 use Rattle.promise.specs.Statements.{order, prepare, commit}
 use Rattle.promise.specs.Steps.{Setting, Member, Confirms}
 use Rattle.promise.specs.Histories.{Correct}
-use Rattle.promise.proofs.Turns.{Reading, lead, an_order, a_prepare, a_commit, a_certificate, a_wish, a_mark, leave, report_on, show, run, Passed, Readable, Admitted, Does, Answers, Turn, Course, now, Unforged}
-use Rattle.promise.proofs.Turns.Course.{none, more}
+use Rattle.promise.proofs.Turns.{Reading, lead, an_order, a_prepare, a_commit, a_certificate, a_wish, a_mark, leave, report_on, show, run, Admitted, Answers, Turn, Course, now, Unforged}
+use Rattle.promise.proofs.Turns.Course.{more}
 use Rattle.promise.proofs.Verdicts.{passed, is_active_if, is_backup_if}
-use Rattle.promise.proofs.Rings.{point_of, page_at, sheet_of, Sized, in_ring, page_is}
+use Rattle.promise.proofs.Rings.{page_at, sheet_of, in_ring, page_is}
 use Rattle.promise.proofs.Refines.{deed}
-use Rattle.promise.proofs.Logs.{turn_deed, log, Logged, all_logged, refined, now_own, now_other}
-use Rattle.promise.proofs.Backs.{all_each}
-use Rattle.promise.proofs.Rules.{Said, world, four, sound, rightly, backed, own_vote, rules}
+use Rattle.promise.proofs.Logs.{log, Logged, all_logged, refined, now_own, now_other}
+use Rattle.promise.proofs.Backs.{some_same, all_each}
+use Rattle.promise.proofs.Rules.{world, four, sound, rightly, backed, own_vote, rules}
 use Rattle.promise.proofs.Decisions.{settled}
 
 -- calls of a round
@@ -64,9 +64,6 @@ calm_sheet own s core core' leave (Some out) h = absurd h
 calm_sheet own s core core' (report_on n) (Some out) h = absurd h
 calm_sheet own s core core' (show n) (Some out) h = absurd h
 calm_sheet own s core core' run (Some out) h = absurd h
-
-some_same : {A : Type 0} {a b : A} → ◌≡◌ {A = Option A} (Some a) (Some b) → a ≡ b
-some_same e = cc
 
 -- a command that is the ordered one
 ordered_like : (r : Record) (c : ℕ) → order_of r ≡ Some c → (r.ordered ≡ true) × (like_order r c ≡ true)
