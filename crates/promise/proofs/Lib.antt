@@ -20,3 +20,4 @@ mod Bounds
 mod Delivering
 mod Leading
 mod Promises
+mod Example

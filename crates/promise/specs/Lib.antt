@@ -5,3 +5,4 @@ pub mod Lists
 pub mod Rounds
 pub mod Collections
 pub mod Claims
+pub mod Example
