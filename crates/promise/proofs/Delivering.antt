@@ -15,8 +15,7 @@ use Rattle.packet.specs.declared.packets.Reader.TheVariants.{Replica}
 use Rattle.packet.specs.declared.statements.Statement.{Statement}
 use Rattle.packet.proofs.Encodings.{one_encoding, reads_as}
 use Rattle.packet.proofs.Readings.{length_joined}
-use Rattle.proof.specs.Roles.{active, backups}
-use Rattle.promise.specs.Statements.{prepare, commit}
+use Rattle.proof.specs.Roles.{active}
 use Rattle.promise.specs.Steps.{Setting, Call}
 use Rattle.promise.specs.Steps as steps
 use Rattle.promise.specs.Histories.{Event, History}
@@ -90,14 +89,17 @@ module _ {State : Type 0} (k : Setting State) where
     handed_vote kd j t call r x e = let w = is_take call r (statement kd j v n 0 c t) [] x e in (w.0, (w.1, (t, decodes w.0 (statement kd j v n 0 c t) w.2)))
 
     module _ {es : List (Event State)} (e : Event State) (j : ℕ) (bs : List ℕ) (receives : Among e.who (active v)) (other : ¬ (j ≡ e.who)) (wrote : histories.Written j bs (es ++ base)) (room : 390 ≤ length e.reply) (u : AllBelowBase 256 (histories.handed e.call)) (ih : (ts : List (Turn State)) → Lifted k (es ++ base) ts → Down es ts) where
-      deliver_prepare : {ts : List (Turn State)} → Among j (backups v) → Hands kind.Prepare j v n c bs e.call → ¬ rounds.Delivered kind.Prepare e.who j v n c es → Lifted k (e ∷ (es ++ base)) ts → Down (e ∷ es) ts
-      deliver_prepare votes h once l =
+      -- a vote of one kind
+      deliver_as : {ts : List (Turn State)} → (kd : Kind) → takes Replica kd ≡ true → ((m : ℕ) → m ≡ 30 → has_length kd m ≡ true) → ((s : Statement) → statements_of (reading_of kd s []) ≡ Some (s, []))
+          → ((front rest : List (Turn State)) → turns.Deliveries v n c rest front → (x : Turn State) (t : ℕ) → Among x.who (active v) → ¬ (j ≡ x.who) → x.call ≡ reading_of kd (statement kd j v n 0 c t) [] → turns.Written j (statement kd j v n 0 c t) (front ++ rest) → ¬ turns.Delivered x.who front (λ call. (t : ℕ) × (call ≡ reading_of kd (statement kd j v n 0 c t) [])) → turns.Deliveries v n c rest (x ∷ front))
+          → Hands kd j v n c bs e.call → ¬ rounds.Delivered kd e.who j v n c es → Lifted k (e ∷ (es ++ base)) ts → Down (e ∷ es) ts
+      deliver_as kd taken long alone another h once l =
           let t = h.1.0 in
-          let s = prepare j v n c t in
+          let s = statement kd j v n 0 c t in
           let b : AllBelowBase 256 bs = subst (λ (y : Call). AllBelowBase 256 (histories.handed y)) h.0 u in
           let w = one_encoding.writes_back bs s b h.1.1 in
-          let x = kept_roomy room (a_prepare s) (vote_reads kind.Prepare j t bs e.call refl (λ m q. eq-eqb m 30 q) u h.0 h.1.1) l in
-          let called : x.reading ≡ a_prepare s = vote_called kind.Prepare j t bs e.call x.reading refl (λ m q. eq-eqb m 30 q) u h.0 h.1.1 x.reads in
+          let x = kept_roomy room (reading_of kd s []) (vote_reads kd j t bs e.call taken long u h.0 h.1.1) l in
+          let called : x.reading ≡ reading_of kd s [] = vote_called kd j t bs e.call x.reading taken long u h.0 h.1.1 x.reads in
           let d = ih x.rest x.lifted in
           let written = written_lowered k s (record { body = w.1.fits; seal = w.1.seal }) refl x.lifted (subst (λ p. histories.Written j p (es ++ base)) (sym w.0) wrote) in
           record {
@@ -105,32 +107,9 @@ module _ {State : Type 0} (k : Setting State) where
             rest = d.rest;
             is = x.is ∙ ap (λ r. turn_of e x.reading x.answer ∷ r) d.is;
             lifted = d.lifted;
-            each = turns.Deliveries.a_prepare_more d.each (turn_of e x.reading x.answer) j t receives votes other called (subst (λ r. turns.Written j s r) d.is written) (λ y.
+            each = another d.front d.rest d.each (turn_of e x.reading x.answer) t receives other called (subst (λ r. turns.Written j s r) d.is written) (λ y.
                 let z = d.back y.turn y.stands in
-                let g = handed_vote kind.Prepare j y.such.0 z.0.call y.turn.call z.3 (ap statements_of y.such.1) in
-                once (record { event = z.0; stands = z.1; own = sym z.2 ∙ y.own; bytes = g.0; hands = g.1 }));
-            back = each_cons {P = λ t. (y : Event State) × Among y (e ∷ es) × (t.who ≡ y.who) × Reads y.call t.call} (e, here refl, refl, x.reads) (λ t a. let z = d.back t a in (z.0, there z.1, z.2, z.3));
-            forth = each_cons {P = λ y. (t : Turn State) × Among t (turn_of e x.reading x.answer ∷ d.front) × (t.who ≡ y.who) × Reads y.call t.call} (turn_of e x.reading x.answer, here refl, refl, x.reads) (λ y a. let z = d.forth y a in (z.0, there z.1, z.2, z.3));
-          }
-
-      deliver_commit : {ts : List (Turn State)} → Among j (active v) → Hands kind.Commit j v n c bs e.call → ¬ rounds.Delivered kind.Commit e.who j v n c es → Lifted k (e ∷ (es ++ base)) ts → Down (e ∷ es) ts
-      deliver_commit votes h once l =
-          let t = h.1.0 in
-          let s = commit j v n c t in
-          let b : AllBelowBase 256 bs = subst (λ (y : Call). AllBelowBase 256 (histories.handed y)) h.0 u in
-          let w = one_encoding.writes_back bs s b h.1.1 in
-          let x = kept_roomy room (a_commit s) (vote_reads kind.Commit j t bs e.call refl (λ m q. or_left _ _ (eq-eqb m 30 q)) u h.0 h.1.1) l in
-          let called : x.reading ≡ a_commit s = vote_called kind.Commit j t bs e.call x.reading refl (λ m q. or_left _ _ (eq-eqb m 30 q)) u h.0 h.1.1 x.reads in
-          let d = ih x.rest x.lifted in
-          let written = written_lowered k s (record { body = w.1.fits; seal = w.1.seal }) refl x.lifted (subst (λ p. histories.Written j p (es ++ base)) (sym w.0) wrote) in
-          record {
-            front = turn_of e x.reading x.answer ∷ d.front;
-            rest = d.rest;
-            is = x.is ∙ ap (λ r. turn_of e x.reading x.answer ∷ r) d.is;
-            lifted = d.lifted;
-            each = turns.Deliveries.a_commit_more d.each (turn_of e x.reading x.answer) j t receives votes other called (subst (λ r. turns.Written j s r) d.is written) (λ y.
-                let z = d.back y.turn y.stands in
-                let g = handed_vote kind.Commit j y.such.0 z.0.call y.turn.call z.3 (ap statements_of y.such.1) in
+                let g = handed_vote kd j y.such.0 z.0.call y.turn.call z.3 (ap statements_of y.such.1 ∙ alone (statement kd j v n 0 c y.such.0)) in
                 once (record { event = z.0; stands = z.1; own = sym z.2 ∙ y.own; bytes = g.0; hands = g.1 }));
             back = each_cons {P = λ t. (y : Event State) × Among y (e ∷ es) × (t.who ≡ y.who) × Reads y.call t.call} (e, here refl, refl, x.reads) (λ t a. let z = d.back t a in (z.0, there z.1, z.2, z.3));
             forth = each_cons {P = λ y. (t : Turn State) × Among t (turn_of e x.reading x.answer ∷ d.front) × (t.who ≡ y.who) × Reads y.call t.call} (turn_of e x.reading x.answer, here refl, refl, x.reads) (λ y a. let z = d.forth y a in (z.0, there z.1, z.2, z.3));
@@ -138,8 +117,8 @@ module _ {State : Type 0} (k : Setting State) where
 
       deliver : {ts : List (Turn State)} → (kd : Kind) → VotesBy kd v j → Hands kd j v n c bs e.call → ¬ rounds.Delivered kd e.who j v n c es → Lifted k (e ∷ (es ++ base)) ts → Down (e ∷ es) ts
       deliver kind.Order votes h once l = absurd votes
-      deliver kind.Prepare votes h once l = deliver_prepare votes h once l
-      deliver kind.Commit votes h once l = deliver_commit votes h once l
+      deliver kind.Prepare votes h once l = deliver_as kind.Prepare refl (λ m q. eq-eqb m 30 q) (λ s. refl) (λ front rest d x t r o q w f. turns.Deliveries.a_prepare_more d x j t r votes o q w f) h once l
+      deliver kind.Commit votes h once l = deliver_as kind.Commit refl (λ m q. or_left _ _ (eq-eqb m 30 q)) (λ s. refl) (λ front rest d x t r o q w f. turns.Deliveries.a_commit_more d x j t r votes o q w f) h once l
       deliver kind.Report votes h once l = absurd votes
       deliver kind.Wish votes h once l = absurd votes
       deliver kind.Checkpoint votes h once l = absurd votes

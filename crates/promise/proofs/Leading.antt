@@ -1,5 +1,5 @@
 -- A round of bytes, read.
-use Rattle.std.proofs.Common.{◌≡◌, ℕ, ◌+◌, ◌≤◌, true, List, [], ◌∷◌, ◌++◌, map, length, Some, sym, refl, ap, ◌∙◌, subst, arith}
+use Rattle.std.proofs.Common.{◌≡◌, ℕ, ◌+◌, ◌≤◌, true, List, [], ◌∷◌, ◌++◌, length, Some, sym, refl, ap, ◌∙◌, subst, arith}
 use Rattle.std.proofs.lemmas.Bool.{and_parts, and_from, eq-eqb, le-leb, or_left}
 use Rattle.std.proofs.lemmas.Bool.Decides.{nat_tests}
 use Rattle.std.specs.List.{flat_map, AllByRecursion}
@@ -10,7 +10,6 @@ use Rattle.packet.specs.Proofs.{ProofWritten, has_proof_length}
 use Rattle.packet.specs.Statements.{encode}
 use Rattle.packet.specs.declared.kinds.Kind.TheVariants as kind
 use Rattle.packet.specs.declared.statements.Statement.{Statement}
-use Rattle.packet.proofs.Encodings.{same_encoding}
 use Rattle.packet.proofs.Readings.{length_joined, parts_joined}
 use Rattle.proof.specs.Roles.{primary}
 use Rattle.proof.proofs.Feeding.{among_left, among_right}
@@ -26,7 +25,7 @@ use Rattle.promise.specs.Histories as histories
 use Rattle.promise.specs.Rounds as rounds
 use Rattle.promise.proofs.Turns.{Reading, lead, an_order, a_prepare, a_commit, Turn, Course, HandsPrepare, HandsCommit, Delivered}
 use Rattle.promise.proofs.Turns as turns
-use Rattle.promise.proofs.Readings.{Reads, Taken, reads_as}
+use Rattle.promise.proofs.Readings.{same_fitting, Reads, Taken, reads_as}
 use Rattle.promise.proofs.Rings.{in_ring}
 use Rattle.promise.proofs.Logs.{all_logged, was}
 use Rattle.promise.proofs.Bounds.{bounded}
@@ -34,18 +33,6 @@ use Rattle.promise.proofs.Passing.{one_proof_reading}
 use Rattle.promise.proofs.Lifts.{turn_of, Lifted, same_now, lift}
 use Rattle.promise.proofs.Lowered.{lowered, told_wrote}
 use Rattle.promise.proofs.Delivering.{handed_bytes, Down, KeptAt, kept_ok, kept_roomy, vote_called}
-
--- statements that fit are read in one way
-same_fitting : (xs ys : List Statement) → AllByRecursion Fitting xs → AllByRecursion Fitting ys → map encode xs ≡ map encode ys → xs ≡ ys
-same_fitting [] [] a b e = refl
-same_fitting [] (y ∷ ys) a b e = let z : ◌≡◌ {A = ℕ} 0 1 = cc in absurd (omega arith)
-same_fitting (x ∷ xs) [] a b e = let z : ◌≡◌ {A = ℕ} 0 1 = cc in absurd (omega arith)
-same_fitting (x ∷ xs) (y ∷ ys) a b e =
-    let front : encode x ≡ encode y = cc in
-    let rest : map encode xs ≡ map encode ys = cc in
-    let p = same_encoding x y a.0.body a.0.seal b.0.body b.0.seal front in
-    let q = same_fitting xs ys a.1 b.1 rest in
-    λ i. p i ∷ q i
 
 -- an order in front of a proof has the length of an order
 order_length : (n : ℕ) → has_proof_length n ≡ true → has_length kind.Order (30 + n) ≡ true

@@ -26,7 +26,7 @@ use Rattle.promise.specs.Steps.{Setting, Member, Call, judge_call, seal_in, Acts
 use Rattle.promise.specs.Steps as steps
 use Rattle.promise.specs.Histories as histories
 use Rattle.promise.proofs.Turns.{Reading, lead, leave, report_on, show, run, Admitted, Does, seal_of}
-use Rattle.promise.proofs.Readings.{never, lone, Reads, Taken, reading_of, same_encodings, proof_passes, packet_passes, proof_passed, packet_passed}
+use Rattle.promise.proofs.Readings.{all_fitting, never, lone, Reads, Taken, reading_of, same_encodings, proof_passes, packet_passes, proof_passed, packet_passed}
 
 -- a proof is read in one way
 pub one_proof_reading : (bs : List ℕ) (ss ss' : List Statement) → ProofWritten bs ss → ProofWritten bs ss' → ss ≡ ss'
@@ -122,10 +122,6 @@ module _ {State : Type 0} (own : ℕ) (k : Setting State) (m m' : Member State) 
   take_does s ss bs w kind.Wish e out t st = (t, st)
   take_does s ss bs w kind.Checkpoint e out t st = (t, st)
   take_does s ss bs w kind.Answer e out t st = absurd t
-
-all_fitting : (ss : List Statement) → AllByRecursion Sound ss → AllByRecursion Fitting ss
-all_fitting [] h = tt
-all_fitting (s ∷ ss) h = (record { body = h.0.fits; seal = h.0.seal }, all_fitting ss h.1)
 
 all_joined : {X : Type 0} (P : X → Type 0) (xs ys : List X) → AllByRecursion P xs → AllByRecursion P ys → AllByRecursion P (xs ++ ys)
 all_joined P [] ys a b = b

@@ -23,6 +23,7 @@ use Rattle.sealer.specs.Laws.{Genuine}
 use Rattle.sealer.specs.Seals.{Meaning}
 use Rattle.sealer.proofs.Openings.{carried_ok, one_opening}
 use Rattle.sealer.proofs.Runs.{one_proof_opening}
+use Rattle.promise.specs.Statements.{Fitting}
 use Rattle.promise.specs.Steps.{Setting, Member, Call, judge_call, seal_in, Acts, Commits, Takes, TakesRead, behind, packet_of}
 use Rattle.promise.specs.Steps as steps
 use Rattle.promise.specs.Histories as histories
@@ -117,17 +118,25 @@ handed_as (steps.report_on n) r x = ap (λ y. flat_map encode (turns.handed y)) 
 handed_as (steps.show n) r x = ap (λ y. flat_map encode (turns.handed y)) (sym x)
 handed_as steps.run r x = ap (λ y. flat_map encode (turns.handed y)) (sym x)
 
--- statements are read in one way
-pub same_encodings : (xs ys : List Statement) → AllByRecursion Sound xs → AllByRecursion Sound ys → map encode xs ≡ map encode ys → xs ≡ ys
-same_encodings [] [] a b e = refl
-same_encodings [] (y ∷ ys) a b e = let z : ◌≡◌ {A = ℕ} 0 1 = cc in absurd (omega arith)
-same_encodings (x ∷ xs) [] a b e = let z : ◌≡◌ {A = ℕ} 0 1 = cc in absurd (omega arith)
-same_encodings (x ∷ xs) (y ∷ ys) a b e =
+-- sound statements fit
+pub all_fitting : (ss : List Statement) → AllByRecursion Sound ss → AllByRecursion Fitting ss
+all_fitting [] h = tt
+all_fitting (s ∷ ss) h = (record { body = h.0.fits; seal = h.0.seal }, all_fitting ss h.1)
+
+-- statements that fit are read in one way
+pub same_fitting : (xs ys : List Statement) → AllByRecursion Fitting xs → AllByRecursion Fitting ys → map encode xs ≡ map encode ys → xs ≡ ys
+same_fitting [] [] a b e = refl
+same_fitting [] (y ∷ ys) a b e = let z : ◌≡◌ {A = ℕ} 0 1 = cc in absurd (omega arith)
+same_fitting (x ∷ xs) [] a b e = let z : ◌≡◌ {A = ℕ} 0 1 = cc in absurd (omega arith)
+same_fitting (x ∷ xs) (y ∷ ys) a b e =
     let front : encode x ≡ encode y = cc in
     let rest : map encode xs ≡ map encode ys = cc in
-    let p = same_encoding x y a.0.fits a.0.seal b.0.fits b.0.seal front in
-    let q = same_encodings xs ys a.1 b.1 rest in
+    let p = same_encoding x y a.0.body a.0.seal b.0.body b.0.seal front in
+    let q = same_fitting xs ys a.1 b.1 rest in
     λ i. p i ∷ q i
+
+pub same_encodings : (xs ys : List Statement) → AllByRecursion Sound xs → AllByRecursion Sound ys → map encode xs ≡ map encode ys → xs ≡ ys
+same_encodings xs ys a b e = same_fitting xs ys (all_fitting xs a) (all_fitting ys b) e
 
 -- bytes are one packet
 pub one_reading : (bs : List ℕ) (s s' : Statement) (ss ss' : List Statement) → Taken bs s ss → Taken bs s' ss' → (s ≡ s') × (ss ≡ ss')
