@@ -3,7 +3,7 @@ ghost use Rattle.std.specs.Prelude.{◌≡◌, map};
 ghost use Rattle.ballot.specs.Counting.{Counting, count_of};
 ghost use Rattle.ballot.specs.Marks.{held_mark, same_mark};
 
-use crate::count;
+use crate::{Place, count_places};
 use packet::Slot;
 
 // The mark of a state, with the slot after which it was read. Two marks of unlike slots are of two states, and say nothing of
@@ -36,10 +36,18 @@ impl MarkBallot {
     }
 }
 
+impl Place<Mark> for MarkBallot {
+    ghost held = { held_mark };
+
+    fn holds(&self, like: &Mark) -> bool {
+        self.held && self.slot == like.slot && self.mark == like.mark
+    }
+}
+
 // How many places of a row hold this mark.
-pub fn count_marks(row: &[MarkBallot; 4], mark: &Mark) -> usize
+pub fn count_marks(row: &[MarkBallot], mark: &Mark) -> usize
     ensures value { result ≡ count_of same_mark (map held_mark row.now) mark.now }
     ensures laws { Counting same_mark }
 {
-    count(&row.map(MarkBallot::held_mark), mark)
+    count_places(row, mark)
 }

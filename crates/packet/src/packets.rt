@@ -1,5 +1,5 @@
 // A packet: one or more whole statements, read over the lent bytes.
-ghost use Rattle.std.specs.Prelude.{◌≡◌, ◌<◌, length};
+ghost use Rattle.std.specs.Prelude.{◌≡◌, ◌^◌, ◌<◌, length};
 ghost use Rattle.packet.specs.Laws.{OnePacket, Reading};
 ghost use Rattle.packet.specs.Packets.{takes, has_length, first_kind, read_parts, read_packet, sealed_part, seen, seen_sealed};
 
@@ -87,7 +87,7 @@ pub struct Packet<'a> {
 }
 
 fn read_parts(parts: Parts<'_>) -> Result<Packet<'_>, PacketFault>
-    requires { 0 < length parts.bytes.now }
+    requires { (0 < length parts.bytes.now) × (length parts.bytes.now < 2 ^ 32) }
     ensures { seen result ≡ read_parts parts.entry.bytes.now }
 {
     let first = Statement::read(&parts.bytes[0], 0)?;

@@ -4,7 +4,7 @@
 
 #[cfg(test)]
 mod tests {
-    use packet::{Kind, Reader, Slot, Statement, View, read_packet};
+    use packet::{Kind, Parts, Reader, Slot, Statement, View, read_packet};
     use refusal::PacketFault;
 
     // The fields of a statement without its seal, and whether they are proper.
@@ -179,5 +179,27 @@ mod tests {
             let fault = read_packet(Reader::Replica, spoiled.as_flattened()).err();
             assert_eq!(rt; fault, Some(PacketFault::Statement { place }));
         }
+    }
+
+    // Pieces of one's own, of which the second is no statement.
+    #[test]
+    fn any_pieces_are_parts(rt: HostRuntime) {
+        let wish = Statement {
+            kind: Kind::Wish,
+            signer: 3,
+            view: View(2),
+            slot: Slot(0),
+            earlier: View(0),
+            command: 0,
+            seal: 9,
+        };
+        let pieces = [wish.write(), [0; 30], wish.write()];
+        let parts = Parts::from(&pieces[..]);
+        assert_eq!(rt; parts.count(), 3);
+        let read = [Some(wish), None, Some(wish), None];
+        for (place, expected) in read.into_iter().enumerate() {
+            assert_eq!(rt; parts.statement(place), expected);
+        }
+        assert_eq!(rt; Parts::from(&pieces[0..0]).count(), 0);
     }
 }

@@ -1,5 +1,5 @@
 // What a sealer is, and what any sealer serves for: to sign a statement, and to open a packet.
-ghost use Rattle.std.specs.Prelude.{◌≡◌, ℕ, ◌<◌, true};
+ghost use Rattle.std.specs.Prelude.{◌≡◌, ℕ, ◌^◌, ◌<◌, true, length};
 ghost use Rattle.packet.specs.Packets.{seen};
 ghost use Rattle.sealer.specs.Laws.{OneOpening, Opening};
 ghost use Rattle.sealer.specs.Seals.{Meaning, Signed, check_seals, open_packet};
@@ -50,6 +50,7 @@ pub fn sign<S: Sealer>(sealer: &mut S, statement: Statement) -> Statement
 // Checks every seal, and refuses the first that is not genuine. `Parts::check_from` walks alike: one walk for both would be a public
 // function that requires something of its closure.
 pub(crate) fn check_seals<S: Sealer>(sealer: &S, parts: &Parts<'_>) -> Result<(), SealerFault>
+    requires { length parts.now.bytes.now < 2 ^ 32 }
     ensures { result ≡ check_seals (S.genuine sealer.now) 0 parts.now.bytes.now }
 {
     for (i, part) in parts.bytes.iter().enumerate() {
