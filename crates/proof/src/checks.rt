@@ -1,5 +1,5 @@
 // What a replica takes, and what a primary is handed: statements under genuine seals that keep the rules together.
-ghost use Rattle.std.specs.Prelude.{◌≡◌};
+ghost use Rattle.std.specs.Prelude.{◌≡◌, ◌≤◌, length, IfOk};
 ghost use Rattle.proof.specs.Checks.{check_packet, check_proof, check_rule};
 ghost use Rattle.packet.specs.Packets.{seen};
 ghost use Rattle.proof.specs.Laws.{FeedsAgreement, PacketsKeep, ProofsKeep, RestAlike};
@@ -31,6 +31,7 @@ fn check_rule(packet: &Packet<'_>) -> Result<(), ProofFault>
 #[tactic(auto, using(crate::proofs::Kept::packets_keep, crate::proofs::Feeding::feeds_agreement), unfolding(crate::specs::Checks::check_packet))]
 pub fn check_packet<'a, S: Sealer>(sealer: &S, bytes: &'a [u8]) -> Result<Packet<'a>, ProofFault>
     ensures exact { seen result ≡ check_packet (S.genuine sealer.now) bytes.now }
+    ensures few { IfOk result (λ p. length p.parts.bytes.now ≤ 13) }
     ensures law { PacketsKeep (S.genuine sealer.now) }
     ensures agreement { FeedsAgreement }
 {

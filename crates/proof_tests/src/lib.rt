@@ -169,6 +169,18 @@ mod tests {
         Ok(said)
     }
 
+    #[test]
+    fn the_longest_order_is_taken_whole(rt: HostRuntime) -> Result<(), Fail> {
+        let mut sealer = BenchSealer::new(0)?;
+        let mut said = Vec::new(rt.alloc());
+        said.push(Said(Kind::Order, 0, 5, 9, 0, 7))?;
+        said.extend_from_slice(&reports(rt.alloc(), [1, 2, 3])?)?;
+        let bytes = written(rt.alloc(), &mut sealer, &said)?;
+        let taken = check_packet(&sealer, &bytes).ok();
+        assert_eq!(rt; taken.map(|packet| packet.parts.count()), Some(13));
+        Ok(())
+    }
+
     // Earlier views, how many bytes are handed in (cut short or with zeros behind), the view and the command, and the refusal.
     struct Lead([u32; 3], usize, u32, u64, u8);
 

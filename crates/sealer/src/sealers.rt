@@ -1,5 +1,5 @@
 // What a sealer is, and what any sealer serves for: to sign a statement, and to open a packet.
-ghost use Rattle.std.specs.Prelude.{◌≡◌, ℕ, ◌^◌, ◌<◌, true, length};
+ghost use Rattle.std.specs.Prelude.{◌≡◌, ℕ, ◌^◌, ◌<◌, ◌≤◌, true, length, IfOk};
 ghost use Rattle.packet.specs.Packets.{seen};
 ghost use Rattle.sealer.specs.Laws.{OneOpening, Opening};
 ghost use Rattle.sealer.specs.Seals.{Meaning, Signed, check_seals, open_packet};
@@ -71,6 +71,7 @@ pub fn open<'a, S: Sealer>(
 ) -> Result<Packet<'a>, SealerFault>
     ensures exact { seen result ≡ open_packet (S.genuine sealer.now) reader bytes.now }
     ensures opening { Opening (S.genuine sealer.now) reader bytes.now result }
+    ensures few { IfOk result (λ p. length p.parts.bytes.now ≤ 13) }
     ensures law { OneOpening (S.genuine sealer.now) }
 {
     let packet = read_packet(reader, bytes)?;

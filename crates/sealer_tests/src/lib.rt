@@ -5,7 +5,7 @@
 mod tests {
     use packet::{Kind, Reader, Slot, Statement, View};
     use refusal::SealerFault;
-    use sealer::{BenchSealer, Sealer, SipSealer, open, sign, siphash};
+    use sealer::{BenchSealer, Sealer, SipSealer, open, open_proof, sign, siphash};
     use std::test::Fail;
 
     const KEY: [u8; 16] = [0, 1, 2, 3, 4, 5, 6, 7, 8, 9, 10, 11, 12, 13, 14, 15];
@@ -157,6 +157,32 @@ mod tests {
             let fault = open(&bench, Reader::Replica, spoiled.as_flattened()).err();
             assert_eq!(rt; fault, Some(SealerFault::Seal { place }));
         }
+        Ok(())
+    }
+
+    // An order with twelve commits behind it, and the twelve alone.
+    #[test]
+    fn the_longest_are_opened_whole(rt: HostRuntime) -> Result<(), Fail> {
+        let order = Statement {
+            kind: Kind::Order,
+            signer: 0,
+            view: View(1),
+            slot: Slot(1),
+            earlier: View(0),
+            command: 1,
+            seal: 0,
+        };
+        let mut bench = BenchSealer::new(2)?;
+        let commit = Statement {
+            kind: Kind::Commit,
+            ..order
+        };
+        let mut packet = [sign(&mut bench, commit).write(); 13];
+        packet[0] = sign(&mut bench, order).write();
+        let opened = open(&bench, Reader::Replica, packet.as_flattened()).ok();
+        assert_eq!(rt; opened.map(|packet| packet.parts.count()), Some(13));
+        let proof = open_proof(&bench, packet[1..].as_flattened()).ok();
+        assert_eq!(rt; proof.map(|parts| parts.count()), Some(12));
         Ok(())
     }
 }
